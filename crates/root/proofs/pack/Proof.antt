@@ -1,0 +1,20 @@
+-- `root::pack` meets its contract.
+use mathlib.Core.Path.{sym, subst}
+use mathlib.Core.Bool.{Bool, not}
+use Prim.Native.Nat.{_+_, _*_}
+use lib.Dec.{T}
+use native.Mathlib.Omega.{arith}
+use borrow.Author.Needs.{needs}
+use Rattle.root.specs.Weights.{hidden}
+use Rattle.root.proofs.Patterns.{at-normal, no-nan}
+use Rattle.root.proofs.pack.Statement.{statement}
+use Rattle.root.proofs.pack.Tie as tie
+
+float-from-bits-result : tie.Need-float-from-bits-result
+float-from-bits-result c = subst (λ (t : Bool). T (not t)) (sym (no-nan (c .args .k * hidden + c .args .q) (omega arith))) tt
+
+returns : tie.Need-returns
+returns c = at-normal (c .args .q) (c .args .k) (c .pre .0) (c .pre .1) (omega arith)
+
+pub pack-spec : {M : Type 1} → statement M
+pack-spec = tie.close (tie.spec (λ c. search needs) (λ c. search needs) float-from-bits-result returns)

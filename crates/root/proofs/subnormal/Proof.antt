@@ -1,0 +1,43 @@
+-- `root::subnormal` meets its contract: moved up by its leading zeros, the number has 53 digits, and no digit is lost.
+use mathlib.Core.Path.{_≡_, sym, ap, _∙_}
+use Prim.Native.Nat.{ℕ, _+_, _-_, _*_, _%_, _^_}
+use native.Mathlib.Nat.{mod-eq-of-lt}
+use native.Mathlib.Omega.{arith}
+use lib.Count.{leadingZeros}
+use Rattle.root.specs.Weights.{patterns}
+use Rattle.root.specs.Root.{rootOf}
+use Rattle.root.proofs.Roots.{subnormal-root}
+use Rattle.root.proofs.Shift.{Shifted, shifted}
+use Rattle.root.proofs.subnormal.Statement.{statement}
+use Rattle.root.proofs.subnormal.Tie as tie
+
+at : (c : tie.Start) → Shifted (c .args .b) (leadingZeros 64 (c .args .b))
+at c = shifted (c .args .b) (c .pre .0) (c .pre .1)
+
+-- the shift drops nothing
+kept : (c : tie.Start) → c .args .b * 2 ^ (leadingZeros 64 (c .args .b) - 11) % patterns ≡ c .args .b * 2 ^ (leadingZeros 64 (c .args .b) - 11)
+kept c = let s = at c in mod-eq-of-lt (omega arith)
+
+rounded-requires : tie.Need-rounded-requires
+rounded-requires c κs = let s = at c in let k = kept c in (omega arith, omega arith, omega arith)
+
+returns : tie.Need-returns
+returns c =
+    let s = at (c .before) in
+    let b = c .before .args .b in
+    let e = 1022 - (leadingZeros 64 b - 11) in
+    c .rounded .ensures
+    ∙ ap (λ (m : ℕ). rootOf (m * 2 ^ (e + 52))) (kept (c .before))
+    ∙ sym (subnormal-root b (b * 2 ^ (leadingZeros 64 b - 11)) e (c .before .pre .0) (c .before .pre .1) (s .is))
+
+pub subnormal-spec : {M : Type 1} → statement M
+subnormal-spec =
+    tie.close
+    (tie.spec
+    (λ c. let s = at c in omega arith)
+    (λ c. let s = at c in omega arith)
+    (λ c. let s = at c in omega arith)
+    (λ c. let s = at c in omega arith)
+    (λ c. let s = at c in omega arith)
+    rounded-requires
+    returns)

@@ -1,0 +1,5 @@
+pub mod Weights
+pub mod Root
+pub mod Nearest
+pub mod Part
+pub mod Rest
