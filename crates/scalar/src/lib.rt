@@ -1,7 +1,6 @@
 // src/core/scalar.rs at f64: the constants and functions that belong to the number type. The numbers
 // themselves are plain f64; the root is the crate `root`'s.
 ghost use mathlib.Core.Path.{_≡_};
-ghost use lib.Ieee.{neg};
 ghost use Rattle.root.specs.Root.{root as rootOfNumber};
 ghost use Rattle.scalar.specs.Number.{abs as absOf, clamp, saturated, ofWhole};
 ghost use Rattle.scalar.specs.Constants.{constants as constantsOf};

@@ -1,6 +1,4 @@
 -- `ControlScalar::abs` meets its contract.
-use mathlib.Core.Path.{_≡_}
-use mathlib.Core.Bool.{true}
 use Rattle.scalar.proofs.Abs.{abs-below, abs-zero, abs-else}
 use Rattle.scalar.proofs.ControlScalar.abs.Statement.{statement}
 use Rattle.scalar.proofs.ControlScalar.abs.Tie as tie
