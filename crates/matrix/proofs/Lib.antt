@@ -1,0 +1,7 @@
+pub mod Tables
+pub mod Matrices
+pub mod Answers
+pub mod Results
+pub mod Arrays
+pub mod Vectors
+pub mod Kernels

@@ -1,0 +1,116 @@
+-- Laws of sums and of matrices, for sizes that vary: shape, cells, and what a result reads. Assumes nothing.
+use mathlib.Core.Path.{_≡_, refl, sym, ap, ap₂, _∙_}
+use mathlib.Core.List.{List, [], _∷_}
+use mathlib.Core.Bool.{cond}
+use Prim.Native.Nat.{ℕ, zero, suc, _+_, _≤_, _<_, suc-le-suc}
+use native.Mathlib.Nat.{le-of-lt, le-refl}
+use native.Mathlib.Numerals.{add-one}
+use native.Mathlib.Omega.{arith}
+use lib.Dec.{eqb}
+use lib.ListN.{length}
+use lib.Ieee.{Float, nan}
+use Rattle.scalar.specs.Number.{_⊕_, _⊗_, +0, one}
+use Rattle.matrix.specs.Table.{table}
+use Rattle.matrix.specs.Matrix.{Vector, Matrix, at, row, cell, mat, sumFrom, sum, mul, matvec, transpose, identity}
+use Rattle.matrix.proofs.Tables.{length-table, getD-table, table-ext}
+
+-- ---- sums
+pub sumFrom-ext : {s u : Float} (n : ℕ) (f g : ℕ → Float) → s ≡ u → ((t : ℕ) → t < n → f t ≡ g t) → sumFrom s n f ≡ sumFrom u n g
+unfolding sumFrom
+sumFrom-ext zero f g e h = e
+sumFrom-ext (suc n) f g e h = ap₂ (λ (x y : Float). x ⊕ y) (sumFrom-ext n f g e (λ t l. h t (le-of-lt (suc-le-suc l)))) (h n (le-refl (suc n)))
+
+pub sum-ext : (n : ℕ) (f g : ℕ → Float) → ((t : ℕ) → t < n → f t ≡ g t) → sum n f ≡ sum n g
+sum-ext n f g h = sumFrom-ext n f g refl h
+
+-- A loop has added the first t of k terms to s₀: its invariant
+pub record Summing (s₀ : Float) (f : ℕ → Float) (k t : ℕ) (s : Float) : Type 0 where
+  pub within : t ≤ k
+  pub is : s ≡ sumFrom s₀ t f
+
+pub summing-none : (s₀ : Float) (f : ℕ → Float) (k : ℕ) → Summing s₀ f k 0 s₀
+unfolding sumFrom
+summing-none s₀ f k = record { within = omega arith; is = refl }
+
+pub summing-more : {s₀ : Float} {f : ℕ → Float} {k t : ℕ} {s x : Float} → Summing s₀ f k t s → t < k → x ≡ f t → Summing s₀ f k (t + 1) (s ⊕ x)
+unfolding sumFrom
+summing-more {s₀} {f} {k} {t} {s} {x} e h v =
+    record { within = omega arith; is = (λ i. e .is i ⊕ v i) ∙ ap (λ (m : ℕ). sumFrom s₀ m f) (sym (add-one t)) }
+
+pub summing-all : {s₀ : Float} {f : ℕ → Float} {k t : ℕ} {s : Float} → Summing s₀ f k t s → k ≤ t → s ≡ sumFrom s₀ k f
+summing-all {s₀} {f} {k} {t} {s} e h =
+    let same : t ≡ k = omega arith in
+    e .is ∙ ap (λ (m : ℕ). sumFrom s₀ m f) same
+
+-- Four such sums side by side, one for each column of a row of four; the terms of sum j are f j
+pub record RowSums (f : ℕ → ℕ → Float) (k t : ℕ) (s0 s1 s2 s3 : Float) : Type 0 where
+  pub in0 : Summing +0 (f 0) k t s0
+  pub in1 : Summing +0 (f 1) k t s1
+  pub in2 : Summing +0 (f 2) k t s2
+  pub in3 : Summing +0 (f 3) k t s3
+
+pub row-sums-none : (f : ℕ → ℕ → Float) (k : ℕ) → RowSums f k 0 +0 +0 +0 +0
+row-sums-none f k = record { in0 = summing-none +0 (f 0) k; in1 = summing-none +0 (f 1) k; in2 = summing-none +0 (f 2) k; in3 = summing-none +0 (f 3) k }
+
+pub row-sums-more : {f : ℕ → ℕ → Float} {k t : ℕ} {s0 s1 s2 s3 : Float} → RowSums f k t s0 s1 s2 s3 → t < k
+    → RowSums f k (t + 1) (s0 ⊕ f 0 t) (s1 ⊕ f 1 t) (s2 ⊕ f 2 t) (s3 ⊕ f 3 t)
+row-sums-more e h = record { in0 = summing-more (e .in0) h refl; in1 = summing-more (e .in1) h refl; in2 = summing-more (e .in2) h refl; in3 = summing-more (e .in3) h refl }
+
+pub row-sums-all : {f : ℕ → ℕ → Float} {k t : ℕ} {s0 s1 s2 s3 : Float} → RowSums f k t s0 s1 s2 s3 → k ≤ t
+    → _≡_ {A = List Float} (s0 ∷ s1 ∷ s2 ∷ s3 ∷ []) (table 4 (λ j. sum k (f j)))
+row-sums-all e h i = summing-all (e .in0) h i ∷ summing-all (e .in1) h i ∷ summing-all (e .in2) h i ∷ summing-all (e .in3) h i ∷ []
+
+-- ---- A has r rows of c numbers each
+pub record Shape (r c : ℕ) (A : Matrix) : Type 0 where
+  pub rows : length A ≡ r
+  pub cols : (i : ℕ) → i < r → length (row A i) ≡ c
+
+pub shape-mat : (r c : ℕ) (f : ℕ → ℕ → Float) → Shape r c (mat r c f)
+shape-mat r c f = record {
+  rows = length-table r (λ i. table c (λ j. f i j));
+  cols = λ i h. ap length (getD-table r (λ k. table c (λ j. f k j)) i [] h) ∙ length-table c (λ j. f i j);
+}
+
+pub shape-mul : (r k c : ℕ) (A B : Matrix) → Shape r c (mul r k c A B)
+unfolding mul
+shape-mul r k c A B = shape-mat r c (λ i j. sum k (λ t. cell A i t ⊗ cell B t j))
+
+pub shape-transpose : (r c : ℕ) (A : Matrix) → Shape c r (transpose r c A)
+unfolding transpose
+shape-transpose r c A = shape-mat c r (λ i j. cell A j i)
+
+pub shape-identity : (n : ℕ) → Shape n n (identity n)
+unfolding identity
+shape-identity n = shape-mat n n (λ i j. cond (eqb i j) one +0)
+
+-- ---- cells
+pub cell-mat : (r c : ℕ) (f : ℕ → ℕ → Float) (i j : ℕ) → i < r → j < c → cell (mat r c f) i j ≡ f i j
+cell-mat r c f i j hi hj = ap (λ (v : Vector). at v j) (getD-table r (λ k. table c (λ l. f k l)) i [] hi) ∙ getD-table c (λ l. f i l) j nan hj
+
+pub mat-ext : (r c : ℕ) (f g : ℕ → ℕ → Float) → ((i j : ℕ) → i < r → j < c → f i j ≡ g i j) → mat r c f ≡ mat r c g
+mat-ext r c f g h = table-ext r (λ i. table c (λ j. f i j)) (λ i. table c (λ j. g i j)) (λ i hi. table-ext c (λ j. f i j) (λ j. g i j) (λ j hj. h i j hi hj))
+
+-- ---- what a result reads: two operands with the same cells inside the sizes give the same result
+pub mul-ext : (r k c : ℕ) (A B A′ B′ : Matrix) → ((i t : ℕ) → i < r → t < k → cell A i t ≡ cell A′ i t) → ((t j : ℕ) → t < k → j < c → cell B t j ≡ cell B′ t j)
+    → mul r k c A B ≡ mul r k c A′ B′
+unfolding mul
+mul-ext r k c A B A′ B′ p q =
+    mat-ext r c (λ i j. sum k (λ t. cell A i t ⊗ cell B t j)) (λ i j. sum k (λ t. cell A′ i t ⊗ cell B′ t j))
+    (λ i j h g. sum-ext k (λ t. cell A i t ⊗ cell B t j) (λ t. cell A′ i t ⊗ cell B′ t j) (λ t m. ap₂ (λ (x y : Float). x ⊗ y) (p i t h m) (q t j m g)))
+
+pub matvec-ext : (r c : ℕ) (A A′ : Matrix) (v v′ : Vector) → ((i j : ℕ) → i < r → j < c → cell A i j ≡ cell A′ i j) → ((j : ℕ) → j < c → at v j ≡ at v′ j)
+    → matvec r c A v ≡ matvec r c A′ v′
+unfolding matvec
+matvec-ext r c A A′ v v′ p q =
+    table-ext r (λ i. sum c (λ j. cell A i j ⊗ at v j)) (λ i. sum c (λ j. cell A′ i j ⊗ at v′ j))
+    (λ i h. sum-ext c (λ j. cell A i j ⊗ at v j) (λ j. cell A′ i j ⊗ at v′ j) (λ j g. ap₂ (λ (x y : Float). x ⊗ y) (p i j h g) (q j g)))
+
+pub transpose-ext : (r c : ℕ) (A A′ : Matrix) → ((i j : ℕ) → i < r → j < c → cell A i j ≡ cell A′ i j) → transpose r c A ≡ transpose r c A′
+unfolding transpose
+transpose-ext r c A A′ p = mat-ext c r (λ i j. cell A j i) (λ i j. cell A′ j i) (λ i j h g. p j i g h)
+
+-- a matrix of what f makes of the cells of two
+pub both-ext : (f : Float → Float → Float) (r c : ℕ) (A B A′ B′ : Matrix) → ((i j : ℕ) → i < r → j < c → cell A i j ≡ cell A′ i j) → ((i j : ℕ) → i < r → j < c → cell B i j ≡ cell B′ i j)
+    → mat r c (λ i j. f (cell A i j) (cell B i j)) ≡ mat r c (λ i j. f (cell A′ i j) (cell B′ i j))
+both-ext f r c A B A′ B′ p q =
+    mat-ext r c (λ i j. f (cell A i j) (cell B i j)) (λ i j. f (cell A′ i j) (cell B′ i j)) (λ i j h g. ap₂ f (p i j h g) (q i j h g))

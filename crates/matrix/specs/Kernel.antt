@@ -1,0 +1,43 @@
+-- What the functions behind references hand over, a result in its array or all +0, and the sizes of vectors. Definitions only.
+use Prim.Native.Nat.{ℕ, _/_, _%_}
+use mathlib.Core.Bool.{Bool, _&&_}
+use mathlib.Core.List.{List, []}
+use lib.Dec.{eqb}
+use lib.Ieee.{Float}
+use Rattle.matrix.specs.Table.{table}
+use Rattle.matrix.specs.Matrix.{Vector, Matrix, cell}
+use Rattle.matrix.specs.Array.{pad, padRow, usedFlat}
+use Rattle.matrix.specs.Answer.{Answer, refused, answered}
+use Rattle.matrix.specs.Result.{sized, shaped}
+
+-- a matrix in its array, +0 outside; all +0 in the place of a refusal
+abbrev pub rowsOf : Answer Matrix → List (List Float)
+rowsOf (refused k) = pad []
+rowsOf (answered A) = pad A
+
+abbrev pub cellsOf : Answer Vector → List Float
+cellsOf (refused k) = padRow []
+cellsOf (answered v) = padRow v
+
+-- ---- four rows of four that stand flat in a record
+
+-- row i is numbers 4 i to 4 i + 3
+unfoldable pub rowsOfFlat : List Float → List (List Float)
+unfolding usedFlat
+rowsOfFlat f = usedFlat 4 4 f
+
+-- number n is that of row n / 4, column n % 4
+unfoldable pub flatOfRows : List (List Float) → List Float
+flatOfRows a = table 16 (λ n. cell a (n / 4) (n % 4))
+
+-- ---- sizes
+
+-- both vectors have this many components
+unfoldable pub paired : ℕ → ℕ → Bool
+unfolding sized
+paired n m = sized n && eqb n m
+
+-- r rows and c columns, and as many columns as the vector has components
+unfoldable pub applicable : ℕ → ℕ → ℕ → Bool
+unfolding shaped
+applicable r c n = shaped r c && eqb c n
