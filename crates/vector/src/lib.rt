@@ -1,0 +1,135 @@
+// src/core/matrix.rs at f64, the functions on vectors: vectors of at most 4 components as arrays by value, with
+// the used size beside them. Components outside are ignored on entry and +0 in a result.
+use matrix::MatrixResult;
+use matrix::ScalarResult;
+use matrix::Status;
+use matrix::VectorResult;
+use matrix::is_applicable;
+use matrix::is_paired;
+use matrix::is_shape;
+use matrix::is_size;
+use matrix::kept;
+use matrix::kernel;
+use matrix::matrix_refused;
+use matrix::matrix_result;
+use matrix::vector_refused;
+use matrix::vector_result;
+use scalar::ControlScalar;
+ghost use mathlib.Core.Path.{_≡_};
+ghost use Prim.Native.Nat.{_≤_};
+ghost use Rattle.matrix.specs.Answer.{where-sized};
+ghost use Rattle.matrix.specs.Table.{table};
+ghost use Rattle.matrix.specs.Matrix.{at, matvec as matvecOf, outer as outerOf, vecAdd, vecSub, vecScale, dot, vecNorm};
+ghost use Rattle.matrix.specs.Array.{cut, used, pad};
+ghost use Rattle.matrix.specs.Result.{asMatrix, asVector, asScalar, sized, shaped};
+ghost use Rattle.matrix.specs.Kernel.{paired, applicable};
+ghost use Rattle.scalar.specs.Number.{_⊗_};
+
+// ---- products
+
+// a, of r rows and c columns, times v, of n components. Refused with 1: a size, or c is not n.
+pub fn matvec(a: [[f64; 4]; 4], r: usize, c: usize, v: [f64; 4], n: usize) -> VectorResult
+    ensures { λ p. ⌜ p ≡ asVector (where-sized (applicable r c n) (matvecOf r c (used r c a) (cut c v))) ⌝ }
+{
+    if is_applicable(r, c, n) {
+        vector_result(Status::Done, kernel::product_vector(&a, &v, r, c))
+    } else {
+        vector_refused(1)
+    }
+}
+
+// x times each of the four numbers of w.
+fn times_row(x: f64, w: [f64; 4]) -> [f64; 4]
+    ensures { λ r. ⌜ r ≡ table 4 (λ j. x ⊗ at w j) ⌝ }
+{
+    [x * w[0], x * w[1], x * w[2], x * w[3]]
+}
+
+fn outer_rows(v: [f64; 4], r: usize, w: [f64; 4], c: usize) -> [[f64; 4]; 4]
+    requires { ⌜ (r ≤ 4) × (1 ≤ c) × (c ≤ 4) ⌝ }
+    ensures { λ p. ⌜ p ≡ pad (outerOf r c (cut r v) (cut c w)) ⌝ }
+{
+    let mut out = [[0.0; 4]; 4];
+    for i in 0..r {
+        out[i] = kept(times_row(v[i], w), c);
+    }
+    out
+}
+
+// v, of r components, times transposed w, of c. Refused with 1: a size.
+pub fn outer(v: [f64; 4], r: usize, w: [f64; 4], c: usize) -> MatrixResult
+    ensures { λ p. ⌜ p ≡ asMatrix (where-sized (shaped r c) (outerOf r c (cut r v) (cut c w))) ⌝ }
+{
+    if is_shape(r, c) {
+        matrix_result(Status::Done, outer_rows(v, r, w, c))
+    } else {
+        matrix_refused(1)
+    }
+}
+
+// ---- componentwise
+
+// Refused with 1, as vec_sub and vec_dot: a size, or n is not m.
+pub fn vec_add(a: [f64; 4], n: usize, b: [f64; 4], m: usize) -> VectorResult
+    ensures { λ r. ⌜ r ≡ asVector (where-sized (paired n m) (vecAdd n (cut n a) (cut n b))) ⌝ }
+{
+    if is_paired(n, m) {
+        vector_result(Status::Done, kernel::vector_sum(a, b, n))
+    } else {
+        vector_refused(1)
+    }
+}
+
+pub fn vec_sub(a: [f64; 4], n: usize, b: [f64; 4], m: usize) -> VectorResult
+    ensures { λ r. ⌜ r ≡ asVector (where-sized (paired n m) (vecSub n (cut n a) (cut n b))) ⌝ }
+{
+    if is_paired(n, m) {
+        vector_result(Status::Done, kernel::vector_difference(a, b, n))
+    } else {
+        vector_refused(1)
+    }
+}
+
+// Refused with 1, as vec_norm: a size.
+pub fn vec_scale(a: [f64; 4], n: usize, s: f64) -> VectorResult
+    ensures { λ r. ⌜ r ≡ asVector (where-sized (sized n) (vecScale n (cut n a) s)) ⌝ }
+{
+    if is_size(n) {
+        vector_result(Status::Done, kept(kernel::row_scaled(a, s), n))
+    } else {
+        vector_refused(1)
+    }
+}
+
+// ---- sums
+
+fn dot_of(a: [f64; 4], b: [f64; 4], n: usize) -> f64
+    requires { ⌜ n ≤ 4 ⌝ }
+    ensures { λ s. ⌜ s ≡ dot n a b ⌝ }
+{
+    let mut s = 0.0;
+    for i in 0..n {
+        s = s + a[i] * b[i];
+    }
+    s
+}
+
+pub fn vec_dot(a: [f64; 4], n: usize, b: [f64; 4], m: usize) -> ScalarResult
+    ensures { λ r. ⌜ r ≡ asScalar (where-sized (paired n m) (dot n (cut n a) (cut n b))) ⌝ }
+{
+    if is_paired(n, m) {
+        ScalarResult::Value(dot_of(a, b, n))
+    } else {
+        ScalarResult::Refused(1)
+    }
+}
+
+pub fn vec_norm(a: [f64; 4], n: usize) -> ScalarResult
+    ensures { λ r. ⌜ r ≡ asScalar (where-sized (sized n) (vecNorm n (cut n a))) ⌝ }
+{
+    if is_size(n) {
+        ScalarResult::Value(ControlScalar::sqrt(dot_of(a, a, n)))
+    } else {
+        ScalarResult::Refused(1)
+    }
+}
