@@ -1,0 +1,60 @@
+-- The inverse at the sizes 1 and 2, written out: what the definition comes to there. Assumes nothing.
+use mathlib.Core.Path.{_≡_, refl, ap, _∙_}
+use mathlib.Core.Bool.{Bool, true, false, cond}
+use Prim.Native.Nat.{ℕ}
+use lib.Ieee.{Float, lt}
+use Rattle.scalar.specs.Number.{_⊖_, _⊗_, _⊘_, one, +0, abs}
+use Rattle.matrix.specs.Answer.{Answer, refused, and-then, mapped, refused-if}
+use Rattle.matrix.specs.Matrix.{Matrix, cell, identity}
+use Rattle.matrix.specs.Array.{cut, used}
+use Rattle.inverse.specs.Inverse.{noPivot, pivotRow, swapped, scaledRow, reduced, Augmented, _∣_, exchanged, cleared, column, columns, inv}
+use Rattle.inverse.specs.Two.{oneByOne, twoByTwo, fromDiagonal}
+
+-- the right part after a test, and after a test and a step more
+tested : (b : Bool) (w : Augmented) → mapped (λ v. v .right) (refused-if b 3 w) ≡ refused-if b 3 (w .right)
+tested true w = refl
+tested false w = refl
+
+then-tested : (b : Bool) (w : Augmented) (f : Augmented → Answer Augmented)
+    → mapped (λ v. v .right) (and-then (refused-if b 3 w) f) ≡ cond b (refused 3) (mapped (λ v. v .right) (f w))
+then-tested true w f = refl
+then-tested false w f = refl
+
+pub one-is : (x : Float) → inv 1 (oneByOne x) ≡ refused-if (noPivot (abs x)) 3 (oneByOne (one ⊗ (one ⊘ x)))
+unfolding inv columns column exchanged swapped cleared scaledRow reduced pivotRow identity
+one-is x = tested (noPivot (abs x)) (cleared 1 0 (exchanged 1 0 0 (oneByOne x ∣ identity 1)))
+
+-- the pivot of the second column; and of a column of the right part that was x, y, what comes to stand in the second row and in the first
+module _ (a b p q e f g h : Float) where
+  abbrev pub second : Float
+  second = q ⊖ p ⊗ (b ⊗ (one ⊘ a))
+
+  abbrev pub below : Float → Float → Float
+  below x y = (y ⊖ p ⊗ (x ⊗ (one ⊘ a))) ⊗ (one ⊘ second)
+
+  abbrev pub top : Float → Float → Float
+  top x y = x ⊗ (one ⊘ a) ⊖ b ⊗ (one ⊘ a) ⊗ below x y
+
+  pub diagonal-is : fromDiagonal (twoByTwo a b p q) (twoByTwo e f g h)
+      ≡ cond (noPivot (abs a)) (refused 3) (refused-if (noPivot (abs second)) 3 (twoByTwo (top e g) (top f h) (below e g) (below f h)))
+  unfolding fromDiagonal column exchanged swapped cleared scaledRow reduced pivotRow
+  diagonal-is =
+      then-tested (noPivot (abs a)) (cleared 2 0 (twoByTwo a b p q ∣ twoByTwo e f g h)) (λ w. column 2 1 w)
+      ∙ ap (cond (noPivot (abs a)) (refused 3))
+      (tested (noPivot (abs second)) (cleared 2 1 (exchanged 2 1 1 (cleared 2 0 (twoByTwo a b p q ∣ twoByTwo e f g h)))))
+
+-- the first column's pivot in row p, whichever that is
+module _ (A : Matrix) where
+  from : ℕ → Answer Matrix
+  from p = mapped (λ w. w .right) (and-then (refused-if (noPivot (abs (cell A p 0))) 3 (cleared 2 0 (exchanged 2 p 0 (A ∣ identity 2)))) (λ w. column 2 1 w))
+
+  choice : (b : Bool) → from (cond b 1 0) ≡ cond b (from 1) (from 0)
+  choice true = refl
+  choice false = refl
+
+pub two-is : (m : Matrix) → inv 2 (used 2 2 m)
+    ≡ cond (lt (abs (cell m 0 0)) (abs (cell m 1 0)))
+    (fromDiagonal (twoByTwo (cell m 1 0) (cell m 1 1) (cell m 0 0) (cell m 0 1)) (twoByTwo +0 one one +0))
+    (fromDiagonal (twoByTwo (cell m 0 0) (cell m 0 1) (cell m 1 0) (cell m 1 1)) (twoByTwo one +0 +0 one))
+unfolding inv columns pivotRow column exchanged swapped identity used cut from fromDiagonal
+two-is m = choice (used 2 2 m) (lt (abs (cell m 0 0)) (abs (cell m 1 0)))

@@ -1,0 +1,31 @@
+-- What the code's operations on rows leave, m′, in an array of rows that they are lent, m. Definitions only.
+use mathlib.Core.Path.{_≡_}
+use mathlib.Core.List.{List}
+use Prim.Native.Nat.{ℕ}
+use lib.ListN.{length, set}
+use lib.Ieee.{Float}
+use Rattle.scalar.specs.Number.{_⊗_}
+use Rattle.matrix.specs.Table.{table}
+use Rattle.matrix.specs.Matrix.{row, cell}
+use Rattle.matrix.specs.Array.{cut, used}
+use Rattle.inverse.specs.Inverse.{_∣_, reduced, exchanged, cleared}
+
+abbrev pub Array : Type 0
+Array = List (List Float)
+
+pub record Swap (p q : ℕ) (m m′ : Array) : Type 0 where
+  pub is : m′ ≡ set (set m p (row m q)) q (row m p)
+
+-- all four columns
+pub record Scale (c : ℕ) (s : Float) (m m′ : Array) : Type 0 where
+  pub is : m′ ≡ set m c (table 4 (λ j. cell m c j ⊗ s))
+
+pub record Reduce (n c : ℕ) (f : List Float) (m m′ : Array) : Type 0 where
+  pub is : used n n m′ ≡ reduced n c (cut n f) (used n n m)
+  pub long : length m′ ≡ 4
+
+-- a whole column, from l and r to l′ and r′
+pub record Clear (n p c : ℕ) (l r l′ r′ : Array) : Type 0 where
+  pub is : (used n n l′ ∣ used n n r′) ≡ cleared n c (exchanged n p c (l ∣ r))
+  pub left : length l′ ≡ 4
+  pub right : length r′ ≡ 4

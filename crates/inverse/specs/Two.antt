@@ -1,0 +1,17 @@
+-- Matrices of the sizes 1 and 2, and the part of the elimination that the straight-line code has. Definitions only.
+use mathlib.Core.List.{[], _∷_}
+use lib.Ieee.{Float}
+use Rattle.scalar.specs.Number.{abs}
+use Rattle.matrix.specs.Answer.{Answer, and-then, mapped, refused-if}
+use Rattle.matrix.specs.Matrix.{Matrix, cell}
+use Rattle.inverse.specs.Inverse.{noPivot, _∣_, cleared, column}
+
+abbrev pub oneByOne : Float → Matrix
+oneByOne x = (x ∷ []) ∷ []
+
+abbrev pub twoByTwo : Float → Float → Float → Float → Matrix
+twoByTwo a b c d = (a ∷ b ∷ []) ∷ (c ∷ d ∷ []) ∷ []
+
+-- the right part in the end, from where the pivot of the first column stands on the diagonal
+unfoldable pub fromDiagonal : Matrix → Matrix → Answer Matrix
+fromDiagonal A B = mapped (λ w. w .right) (and-then (refused-if (noPivot (abs (cell A 0 0))) 3 (cleared 2 0 (A ∣ B))) (λ w. column 2 1 w))

@@ -1,0 +1,209 @@
+// `inv` of src/core/matrix.rs: Gauss and Jordan's elimination with partial pivoting, in place on two arrays of rows.
+// Cells outside the used n by n part are ignored on entry, take part in no used cell, and are +0 in the result.
+ghost use mathlib.Core.Path.{_≡_};
+ghost use Prim.Native.Nat.{_≤_, _<_, _-_, suc};
+ghost use lib.ListN.{length};
+ghost use lib.Ieee.{lt};
+ghost use Rattle.scalar.specs.Number.{abs as absOf};
+ghost use Rattle.matrix.specs.Answer.{if-sized};
+ghost use Rattle.matrix.specs.Table.{table};
+ghost use Rattle.matrix.specs.Matrix.{cell};
+ghost use Rattle.matrix.specs.Array.{used};
+ghost use Rattle.matrix.specs.Result.{asMatrix, sized};
+ghost use Rattle.inverse.specs.Two.{oneByOne, twoByTwo, fromDiagonal};
+ghost use Rattle.inverse.specs.Rows.{Swap, Scale, Reduce, Clear};
+ghost use Rattle.inverse.specs.Inverse.{noPivot, pivotRow, inv as invOf};
+use matrix::MatrixResult;
+use matrix::Status;
+use matrix::kernel;
+
+// ---- the pivot
+
+// A magnitude below EPSILON times 1,000,000, one product. A NaN is not below.
+fn no_pivot(x: f64) -> bool
+    ensures { λ r. ⌜ r ≡ noPivot (absOf x) ⌝ }
+{
+    scalar::ControlScalar::abs(x) < scalar::ControlScalar::EPSILON * 1000000.0
+}
+
+// The first row, from the diagonal down, of largest magnitude in column col.
+fn pivot_row(a: &[[f64; 4]; 4], n: usize, col: usize) -> usize
+    requires { ⌜ (n ≤ 4) × (col < n) ⌝ }
+    ensures { λ r. ⌜ (r ≡ pivotRow (now (a .entry)) col (n - suc col)) × (r < n) ⌝ }
+{
+    let mut p = col;
+    let mut largest = scalar::ControlScalar::abs(a[col][col]);
+    for i in col + 1..n {
+        let x = scalar::ControlScalar::abs(a[i][col]);
+        if x > largest {
+            largest = x;
+            p = i;
+        }
+    }
+    p
+}
+
+// ---- operations on rows, over all four columns
+
+// Rows p and q change places.
+fn swap_rows(m: &mut [[f64; 4]; 4], p: usize, q: usize)
+    requires { ⌜ (p < 4) × (q < 4) ⌝ }
+    ensures { λ r. ⌜ Swap p q (now (m .entry)) (now (m .exit)) ⌝ }
+{
+    let v = m[p];
+    m[p] = m[q];
+    m[q] = v;
+}
+
+// Row col times s.
+fn scale_row(m: &mut [[f64; 4]; 4], col: usize, s: f64)
+    requires { ⌜ col < 4 ⌝ }
+    ensures { λ r. ⌜ Scale col s (now (m .entry)) (now (m .exit)) ⌝ }
+{
+    let v = m[col];
+    m[col] = [v[0] * s, v[1] * s, v[2] * s, v[3] * s];
+}
+
+// The factors of the rows: what stands in column col.
+fn column_of(m: &[[f64; 4]; 4], col: usize) -> [f64; 4]
+    requires { ⌜ col < 4 ⌝ }
+    ensures { λ r. ⌜ r ≡ table 4 (λ i. cell (now (m .entry)) i col) ⌝ }
+{
+    [m[0][col], m[1][col], m[2][col], m[3][col]]
+}
+
+// Each row i but col less f[i] times row col.
+fn reduce_rows(m: &mut [[f64; 4]; 4], n: usize, col: usize, f: [f64; 4])
+    requires { ⌜ (n ≤ 4) × (col < n) × (length (now m) ≡ 4) ⌝ }
+    ensures { λ r. ⌜ Reduce n col f (now (m .entry)) (now (m .exit)) ⌝ }
+{
+    let w = m[col];
+    for i in 0..n {
+        if i != col {
+            let v = m[i];
+            let g = f[i];
+            m[i] = [
+                v[0] - g * w[0],
+                v[1] - g * w[1],
+                v[2] - g * w[2],
+                v[3] - g * w[3],
+            ];
+        }
+    }
+}
+
+// ---- the elimination
+
+// Column col of left becomes that of the identity; its pivot is in row p.
+fn clear_column(left: &mut [[f64; 4]; 4], right: &mut [[f64; 4]; 4], n: usize, p: usize, col: usize)
+    requires { ⌜ (n ≤ 4) × (p < n) × (col < n) × (length (now left) ≡ 4) × (length (now right) ≡ 4) ⌝ }
+    ensures { λ r. ⌜ Clear n p col (now (left .entry)) (now (right .entry)) (now (left .exit)) (now (right .exit)) ⌝ }
+{
+    swap_rows(left, p, col);
+    swap_rows(right, p, col);
+    let s = 1.0 / left[col][col];
+    scale_row(left, col, s);
+    scale_row(right, col, s);
+    let f = column_of(left, col);
+    reduce_rows(left, n, col, f);
+    reduce_rows(right, n, col, f);
+}
+
+// Left is on its way to the identity, and right from the identity to the inverse. Left is a copy of a row
+// by row: so it is known to have four.
+fn eliminate(a: &[[f64; 4]; 4], n: usize) -> MatrixResult
+    requires { ⌜ (1 ≤ n) × (n ≤ 4) ⌝ }
+    ensures { λ r. ⌜ r ≡ asMatrix (invOf n (used n n (now (a .entry)))) ⌝ }
+{
+    let mut left = [a[0], a[1], a[2], a[3]];
+    let mut right = kernel::identity_rows();
+    for col in 0..n {
+        let p = pivot_row(&left, n, col);
+        if no_pivot(left[p][col]) {
+            return matrix::matrix_refused(3);
+        }
+        clear_column(&mut left, &mut right, n, p, col);
+    }
+    matrix::matrix_result(Status::Done, kernel::used_part(&right, n, n))
+}
+
+// ---- the sizes 1 and 2, straight-line
+
+fn above(x: f64, y: f64) -> bool
+    ensures { λ r. ⌜ r ≡ lt (absOf y) (absOf x) ⌝ }
+{
+    scalar::ControlScalar::abs(x) > scalar::ControlScalar::abs(y)
+}
+
+fn inverse_one(x: f64) -> MatrixResult
+    ensures { λ r. ⌜ r ≡ asMatrix (invOf 1 (oneByOne x)) ⌝ }
+{
+    if no_pivot(x) {
+        return matrix::matrix_refused(3);
+    }
+    let z = [0.0; 4];
+    let r0 = [1.0 * (1.0 / x), 0.0, 0.0, 0.0];
+    matrix::matrix_result(Status::Done, [r0, z, z, z])
+}
+
+// The rows (a, b), (p, q) beside the rows (e, f), (g, h), where a is the first column's pivot.
+fn diagonal_two(a: f64, b: f64, p: f64, q: f64, e: f64, f: f64, g: f64, h: f64) -> MatrixResult
+    ensures { λ r. ⌜ r ≡ asMatrix (fromDiagonal (twoByTwo a b p q) (twoByTwo e f g h)) ⌝ }
+{
+    if no_pivot(a) {
+        return matrix::matrix_refused(3);
+    }
+    let s = 1.0 / a;
+    let u = b * s;
+    let d = q - p * u;
+    if no_pivot(d) {
+        return matrix::matrix_refused(3);
+    }
+    let t = 1.0 / d;
+    let v = (g - p * (e * s)) * t;
+    let w = (h - p * (f * s)) * t;
+    let z = [0.0; 4];
+    let r0 = [e * s - u * v, f * s - u * w, 0.0, 0.0];
+    let r1 = [v, w, 0.0, 0.0];
+    matrix::matrix_result(Status::Done, [r0, r1, z, z])
+}
+
+fn inverse_two(a: &[[f64; 4]; 4]) -> MatrixResult
+    ensures { λ r. ⌜ r ≡ asMatrix (invOf 2 (used 2 2 (now (a .entry)))) ⌝ }
+{
+    let a00 = a[0][0];
+    let a01 = a[0][1];
+    let a10 = a[1][0];
+    let a11 = a[1][1];
+    if above(a10, a00) {
+        diagonal_two(a10, a11, a00, a01, 0.0, 1.0, 1.0, 0.0)
+    } else {
+        diagonal_two(a00, a01, a10, a11, 1.0, 0.0, 0.0, 1.0)
+    }
+}
+
+// ---- the entries
+
+// The inverse of the n by n matrix a, lent. Refused: 1 where n is no size, 3 where a column has no pivot.
+pub fn inverse_of(a: &[[f64; 4]; 4], n: usize) -> MatrixResult
+    ensures { λ r. ⌜ r ≡ asMatrix (if-sized (sized n) (invOf n (used n n (now (a .entry))))) ⌝ }
+{
+    if n == 1 {
+        return inverse_one(a[0][0]);
+    }
+    if n == 2 {
+        return inverse_two(a);
+    }
+    if matrix::is_size(n) {
+        eliminate(a, n)
+    } else {
+        matrix::matrix_refused(1)
+    }
+}
+
+// The same, by value.
+pub fn inv(a: [[f64; 4]; 4], n: usize) -> MatrixResult
+    ensures { λ r. ⌜ r ≡ asMatrix (if-sized (sized n) (invOf n (used n n a))) ⌝ }
+{
+    inverse_of(&a, n)
+}
