@@ -1,0 +1,87 @@
+// `cholesky` of src/core/matrix.rs at f64: the lower triangle l with l × transposed l = a. Only the
+// lower triangle of a is read.
+use matrix::MatrixResult;
+use matrix::ScalarResult;
+use matrix::Status;
+use scalar::ControlScalar;
+ghost use mathlib.Core.Path.{_≡_};
+ghost use Prim.Native.Nat.{_≤_, _<_};
+ghost use Rattle.matrix.specs.Answer.{if-sized};
+ghost use Rattle.matrix.specs.Matrix.{row, dot};
+ghost use Rattle.matrix.specs.Array.{used, padRow};
+ghost use Rattle.matrix.specs.Result.{asMatrix, asScalar, sized};
+ghost use Rattle.cholesky.specs.Cholesky.{diagonalOf, leftCells, choleskyOf};
+
+// The root of what is left of a diagonal cell. At or below zero it is refused with 4; a NaN passes.
+pub fn diagonal_root(d: f64) -> ScalarResult
+    ensures { λ r. ⌜ r ≡ asScalar (diagonalOf d) ⌝ }
+{
+    if d <= 0.0 {
+        ScalarResult::Refused(4)
+    } else {
+        ScalarResult::Value(ControlScalar::sqrt(d))
+    }
+}
+
+// The sum of the first n products of v and w.
+fn products<'a>(v: &'a [f64; 4], w: &'a [f64; 4], n: usize) -> f64
+    requires { ⌜ n ≤ 4 ⌝ }
+    ensures { λ s. ⌜ s ≡ dot n (now (v .entry)) (now (w .entry)) ⌝ }
+{
+    let mut sum = 0.0;
+    for k in 0..n {
+        sum = sum + v[k] * w[k];
+    }
+    sum
+}
+
+// Row i of the factor left of the diagonal, and +0 from there; l has the rows above.
+fn left_cells<'a>(a: &'a [[f64; 4]; 4], l: &'a [[f64; 4]; 4], i: usize) -> [f64; 4]
+    requires { ⌜ i < 4 ⌝ }
+    ensures { λ r. ⌜ r ≡ padRow (leftCells (row (now (a .entry)) i) (now (l .entry)) i) ⌝ }
+{
+    let mut v = [0.0; 4];
+    for j in 0..i {
+        let sum = products(&v, &l[j], j);
+        v[j] = (a[i][j] - sum) / l[j][j];
+    }
+    v
+}
+
+// Row after row, each from the rows above it.
+fn factor_rows(a: &[[f64; 4]; 4], n: usize) -> MatrixResult
+    requires { ⌜ n ≤ 4 ⌝ }
+    ensures { λ r. ⌜ r ≡ asMatrix (choleskyOf n (used n n (now (a .entry)))) ⌝ }
+{
+    let mut l = [[0.0; 4]; 4];
+    for i in 0..n {
+        let mut v = left_cells(a, &l, i);
+        let d = a[i][i] - products(&v, &v, i);
+        match diagonal_root(d) {
+            ScalarResult::Value(x) => {
+                v[i] = x;
+                l[i] = v;
+            }
+            ScalarResult::Refused(number) => return matrix::matrix_refused(number),
+        }
+    }
+    matrix::matrix_result(Status::Done, l)
+}
+
+// The factor of the n × n part of a. Refused with 1: the size; with 4: a diagonal.
+pub fn factor_of(a: &[[f64; 4]; 4], n: usize) -> MatrixResult
+    ensures { λ r. ⌜ r ≡ asMatrix (if-sized (sized n) (choleskyOf n (used n n (now (a .entry))))) ⌝ }
+{
+    if matrix::is_size(n) {
+        factor_rows(a, n)
+    } else {
+        matrix::matrix_refused(1)
+    }
+}
+
+// The same, of a matrix by value.
+pub fn cholesky(a: [[f64; 4]; 4], n: usize) -> MatrixResult
+    ensures { λ r. ⌜ r ≡ asMatrix (if-sized (sized n) (choleskyOf n (used n n a))) ⌝ }
+{
+    factor_of(&a, n)
+}
