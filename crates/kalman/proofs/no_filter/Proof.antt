@@ -1,0 +1,13 @@
+-- `no_filter` meets its contract.
+use mathlib.Core.Path.{refl}
+use Rattle.matrix.specs.Array.{pad}
+use Rattle.matrix.specs.Kernel.{flatOfRows}
+use Rattle.kalman.proofs.no_filter.Statement.{statement}
+use Rattle.kalman.proofs.no_filter.Tie as tie
+
+returns : tie.Need-returns
+unfolding flatOfRows pad
+returns c = refl
+
+pub no-filter-spec : {M : Type 1} → statement M
+no-filter-spec = tie.close (tie.spec returns)
