@@ -1,5 +1,5 @@
 -- Laws of answers. Assumes nothing.
-use mathlib.Core.Path.{_≡_, ap, subst}
+use mathlib.Core.Path.{_≡_, sym, ap, subst}
 use Prim.Native.Nat.{ℕ}
 use mathlib.Core.Bool.{Bool, true, false}
 use Rattle.matrix.specs.Answer.{Answer, refused, answered, and-then, mapped, refused-if}
@@ -35,6 +35,15 @@ module _ {A : Type 0} (k : ℕ) (a : A) where
 
   pub if-false : {b : Bool} → b ≡ false → refused-if b k a ≡ answered a
   if-false e = ap (λ (b : Bool). refused-if b k a) e
+
+module _ {A B : Type 0} (f : A → B) where
+  pub mapped-refused : (a : Answer A) (k : ℕ) → mapped f a ≡ refused k → a ≡ refused k
+  mapped-refused (refused j) k e = ap refused (same-refusal e)
+  mapped-refused (answered a) k e = absurd (differ (sym e))
+
+  pub refused-mapped : (a : Answer A) (k : ℕ) → a ≡ refused k → mapped f a ≡ refused k
+  refused-mapped (refused j) k e = ap refused (same-refusal e)
+  refused-mapped (answered a) k e = absurd (differ (sym e))
 
 -- ---- answers made in steps: what is known of the steps is known of the whole
 
