@@ -1,0 +1,124 @@
+-- Laws of numbers placed in a buffer: those placed after and before others, and a loop that places parts of one length. Assumes nothing.
+use mathlib.Core.Path.{_≡_, refl, sym, ap, ap₂, _∙_, subst}
+use mathlib.Core.List.{List, [], _∷_, _++_, append-assoc, append-nil}
+use Prim.Native.Nat.{ℕ, zero, suc, _+_, _*_, _≤_, _<_}
+use native.Mathlib.Nat.{mul-le-mul-right, suc-mul}
+use native.Mathlib.Numerals.{add-one}
+use native.Mathlib.Omega.{arith}
+use lib.ListN.{length, set, take, drop, length-append, length-take, length-drop, take-append-drop}
+use lib.Seq.{append-snoc, set-split, take-at, drop-at, drop-drop, length-take-le, take-take, take-append-le}
+use lib.Ieee.{Float}
+use Rattle.matrix.specs.Table.{table}
+use Rattle.matrix.specs.Matrix.{Matrix, row}
+use Rattle.matrix.proofs.Tables.{table-getD}
+use Rattle.matrix.proofs.Matrices.{Shape}
+use Rattle.rts_smoother.specs.Buffer.{joined, placed}
+
+pub length-placed : (k : ℕ) (l b : List Float) → k + length l ≤ length b → length (placed k l b) ≡ length b
+unfolding placed
+length-placed k l b h = simp (length-append, length-take, length-drop) (omega arith)
+
+pub placed-none : (k : ℕ) (b : List Float) → placed k [] b ≡ b
+unfolding placed
+placed-none k b =
+    let e : k + 0 ≡ k = omega arith in
+    ap₂ (λ (l : List Float) (j : ℕ). l ++ drop j b) (append-nil (take k b)) e ∙ take-append-drop k b
+
+pub set-placed : (k : ℕ) (x : Float) (b : List Float) → k < length b → set b k x ≡ placed k (x ∷ []) b
+unfolding placed
+set-placed k x b h = set-split b k x h ∙ sym (append-snoc (take k b) x (drop (suc k) b)) ∙ ap (λ (j : ℕ). take k b ++ (x ∷ []) ++ drop j b) (sym (add-one k))
+
+-- m right after l
+pub placed-after : (k : ℕ) (l m b : List Float) → k ≤ length b → placed (k + length l) m (placed k l b) ≡ placed k (l ++ m) b
+unfolding placed
+placed-after k l m b h =
+    let front = take k b ++ l in
+    let j = k + length l in
+    let long : length front ≡ j = simp (length-append, length-take-le) (omega arith) in
+    let e : j + length m ≡ k + length (l ++ m) = omega (arith, length-append l m) in
+    ap₂ (λ (x y : List Float). x ++ m ++ y) (take-at front (drop j b) j long)
+    (sym (drop-drop (length m) j (front ++ drop j b)) ∙ ap (drop (length m)) (drop-at front (drop j b) j long) ∙ drop-drop (length m) j b)
+    ∙ ap₂ (λ (x : List Float) (i : ℕ). x ++ drop i b) (append-assoc (take k b) l m) e
+
+-- the same, as two calls leave it
+pub then-placed : {k q : ℕ} (l m b : List Float) {b₁ b₂ : List Float} → k ≤ length b → q ≡ k + length l → b₁ ≡ placed k l b → b₂ ≡ placed q m b₁
+    → b₂ ≡ placed k (l ++ m) b
+then-placed {k} {q} l m b h e p r = r ∙ ap₂ (λ (j : ℕ) (c : List Float). placed j m c) e p ∙ placed-after k l m b h
+
+-- m right before l
+pub placed-before : (k : ℕ) (m l b : List Float) → k + length m ≤ length b → placed k m (placed (k + length m) l b) ≡ placed k (m ++ l) b
+unfolding placed
+placed-before k m l b h =
+    let j = k + length m in
+    let rest = drop (j + length l) b in
+    let long : length (take j b) ≡ j = length-take-le j b h in
+    let e : j + length l ≡ k + length (m ++ l) = omega (arith, length-append m l) in
+    ap (λ (c : List Float). take k c ++ m ++ drop j c) (append-assoc (take j b) l rest)
+    ∙ ap₂ (λ (x y : List Float). x ++ m ++ y) (take-append-le k (take j b) (l ++ rest) (omega arith) ∙ take-take k j b (omega arith)) (drop-at (take j b) (l ++ rest) j long)
+    ∙ sym (append-assoc (take k b ++ m) l rest)
+    ∙ ap₂ (λ (x : List Float) (i : ℕ). x ++ drop i b) (append-assoc (take k b) m l) e
+
+-- ---- parts joined
+joined-more : (i : ℕ) (f : ℕ → List Float) → joined (table (suc i) f) ≡ joined (table i f) ++ f i
+joined-more zero f = append-nil (f zero)
+joined-more (suc i) f =
+    ap (λ (t : List Float). f zero ++ t) (joined-more i (λ j. f (suc j))) ∙ sym (append-assoc (f zero) (joined (table i (λ j. f (suc j)))) (f (suc i)))
+
+pub length-joined : (i w : ℕ) (f : ℕ → List Float) → ((j : ℕ) → j < i → length (f j) ≡ w) → length (joined (table i f)) ≡ i * w
+length-joined zero w f e = omega arith
+length-joined (suc i) w f e =
+    length-append (f zero) (joined (table i (λ j. f (suc j))))
+    ∙ omega (arith, e zero (omega arith), length-joined i w (λ j. f (suc j)) (λ j h. e (suc j) (omega arith)), suc-mul i w)
+
+pub length-rows : (r c : ℕ) (A : Matrix) → Shape r c A → length (joined A) ≡ r * c
+length-rows r c A s =
+    ap (λ (M : Matrix). length (joined M)) (sym (table-getD A []))
+    ∙ length-joined (length A) c (λ i. row A i) (λ i h. s .cols i (subst (λ (k : ℕ). i < k) (s .rows) h))
+    ∙ ap (λ (k : ℕ). k * c) (s .rows)
+
+-- each number a part of its own
+pub joined-single : (n : ℕ) (f : ℕ → Float) → joined (table n (λ i. f i ∷ [])) ≡ table n f
+joined-single zero f = refl
+joined-single (suc n) f = ap (λ (t : List Float). f zero ∷ t) (joined-single n (λ i. f (suc i)))
+
+-- ---- a loop that places parts
+
+-- A loop has placed f 0, .., f (i - 1) of n parts of w numbers each into b, from number k on, and has l: its invariant
+pub record Putting (k w : ℕ) (f : ℕ → List Float) (b : List Float) (n i : ℕ) (l : List Float) : Type 0 where
+  pub within : i ≤ n
+  pub fits : k + n * w ≤ length b
+  pub each : (j : ℕ) → length (f j) ≡ w
+  pub is : l ≡ placed k (joined (table i f)) b
+  pub long : length l ≡ length b
+
+pub putting-none : (k w : ℕ) (f : ℕ → List Float) (b : List Float) (n : ℕ) → k + n * w ≤ length b → ((j : ℕ) → length (f j) ≡ w) → Putting k w f b n 0 b
+putting-none k w f b n h e = record { within = omega arith; fits = h; each = e; is = sym (placed-none k b); long = refl }
+
+-- the next part has its place
+pub putting-room : {k w : ℕ} {f : ℕ → List Float} {b : List Float} {n i : ℕ} {l : List Float} → Putting k w f b n i l → i < n → k + i * w + w ≤ length l
+putting-room {k} {w} {f} {b} {n} {i} {l} p h = omega (arith, p .fits, p .long, mul-le-mul-right w h, suc-mul i w)
+
+-- part i goes to number q
+pub putting-more : {k w : ℕ} {f : ℕ → List Float} {b : List Float} {n i : ℕ} {l m : List Float} (q : ℕ) → Putting k w f b n i l → i < n → q ≡ k + i * w
+    → m ≡ placed q (f i) l → Putting k w f b n (i + 1) m
+putting-more {k} {w} {f} {b} {n} {i} {l} q p h e d =
+    let front = joined (table i f) in
+    let here : q ≡ k + length front = omega (arith, length-joined i w f (λ j g. p .each j)) in
+    let room : q + length (f i) ≤ length l = omega (arith, putting-room p h, p .each i) in
+    record {
+      within = omega arith;
+      fits = p .fits;
+      each = p .each;
+      is =
+          d
+          ∙ ap₂ (λ (j : ℕ) (t : List Float). placed j (f i) t) here (p .is)
+          ∙ placed-after k front (f i) b (omega (arith, p .fits))
+          ∙ ap (λ (t : List Float). placed k t b) (sym (joined-more i f))
+          ∙ ap (λ (j : ℕ). placed k (joined (table j f)) b) (sym (add-one i));
+      long = ap length d ∙ length-placed q (f i) l room ∙ p .long;
+    }
+
+pub putting-all : {k w : ℕ} {f : ℕ → List Float} {b : List Float} {n i : ℕ} {l : List Float} → Putting k w f b n i l → n ≤ i → l ≡ placed k (joined (table n f)) b
+putting-all {k} {w} {f} {b} {n} {i} p h =
+    let same : i ≡ n = omega arith in
+    p .is ∙ ap (λ (j : ℕ). placed k (joined (table j f)) b) same

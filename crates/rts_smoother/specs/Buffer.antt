@@ -1,0 +1,67 @@
+-- How slots and smoothed pairs lie in lent buffers, one number after another, for state size n. Definitions only.
+use Prim.Native.Nat.{ℕ, _+_, _-_, _*_}
+use mathlib.Core.List.{List, [], _∷_, _++_, map}
+use mathlib.Core.Bool.{Bool, _&&_}
+use lib.Dec.{leb, eqb}
+use lib.ListN.{length, take, drop, replicate}
+use lib.Ieee.{Float}
+use Rattle.scalar.specs.Number.{+0}
+use Rattle.matrix.specs.Table.{table}
+use Rattle.matrix.specs.Matrix.{Matrix, at, mat}
+use Rattle.matrix.specs.Result.{sized}
+use Rattle.kalman.specs.Kalman.{Estimate}
+use Rattle.rts_smoother.specs.Smoother.{Slot, Duty}
+
+-- how many numbers a pair takes, and a slot, which is two pairs
+abbrev pub pairLength : ℕ → ℕ
+pairLength n = n + n * n
+
+abbrev pub stride : ℕ → ℕ
+stride n = 2 * n + 2 * (n * n)
+
+-- ---- what stands in a buffer b
+
+-- the pair from number k on: state, then covariance by rows
+unfoldable pub pairAt : ℕ → List Float → ℕ → Estimate
+pairAt n b k = record { state = table n (λ i. at b (k + i)); covariance = mat n n (λ i j. at b (k + n + i * n + j)) }
+
+-- slot k: filtered pair, then predicted pair
+unfoldable pub slotAt : ℕ → List Float → ℕ → Slot
+slotAt n b k = record { filtered = pairAt n b (k * stride n); predicted = pairAt n b (k * stride n + pairLength n) }
+
+-- the first c slots, as a duty; what stands past them plays no part
+unfoldable pub dutyOf : ℕ → Matrix → List Float → ℕ → Duty
+dutyOf n F b c = record { size = n; transition = F; slots = table c (λ k. slotAt n b k) }
+
+-- ---- pairs and slots, one number after another
+abbrev pub joined : List (List Float) → List Float
+joined [] = []
+joined (l ∷ m) = l ++ joined m
+
+unfoldable pub pairNumbers : Estimate → List Float
+pairNumbers e = e .state ++ joined (e .covariance)
+
+unfoldable pub slotNumbers : Slot → List Float
+slotNumbers s = pairNumbers (s .filtered) ++ pairNumbers (s .predicted)
+
+-- b with the numbers l in place of those from number k on; every other number as it was
+unfoldable pub placed : ℕ → List Float → List Float → List Float
+placed k l b = take k b ++ l ++ drop (k + length l) b
+
+-- the output with room for T pairs: the pairs, then +0
+unfoldable pub outputOf : ℕ → ℕ → List Estimate → List Float
+outputOf n T l = joined (map pairNumbers l) ++ replicate ((T - length l) * pairLength n) +0
+
+-- ---- sizes
+
+-- room for 1 to 64 slots
+unfoldable pub roomy : ℕ → Bool
+roomy T = leb 1 T && leb T 64
+
+-- a state size, a room, and a count of slots that have room
+unfoldable pub counted : ℕ → ℕ → ℕ → Bool
+counted n T c = sized n && (roomy T && leb c T)
+
+-- and a buffer of m numbers that is just T slots long
+unfoldable pub buffered : ℕ → ℕ → ℕ → ℕ → Bool
+buffered m n T c = counted n T c && eqb m (T * stride n)

@@ -1,0 +1,5 @@
+pub mod Backward
+pub mod Smoother
+pub mod Demand3
+pub mod Buffer
+pub mod Record

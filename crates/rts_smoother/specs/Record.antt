@@ -1,0 +1,116 @@
+-- The records of the code: which slot a filtered state holds, and what each call answers and leaves. Definitions only.
+use Prim.Native.Nat.{ℕ, _+_, _*_}
+use mathlib.Core.List.{List, []}
+use mathlib.Core.Bool.{Bool, _&&_, cond}
+use lib.Dec.{leb, ltb, eqb}
+use lib.ListN.{length, take, drop}
+use lib.Ieee.{Float}
+use Rattle.matrix.specs.declared.Status.the-variants.{Done, Refused}
+use Rattle.matrix.specs.declared.TestResult.{TestResult}
+use Rattle.matrix.specs.Answer.{Answer, refused, answered, refused-if, where-sized, if-sized}
+use Rattle.matrix.specs.Matrix.{Vector, Matrix}
+use Rattle.matrix.specs.Array.{cut, used, usedFlat, padRow, pad}
+use Rattle.matrix.specs.Kernel.{flatOfRows}
+use Rattle.matrix.specs.Result.{sized, asTest}
+use Rattle.kalman.specs.Kalman.{Estimate}
+use Rattle.rts_smoother.specs.declared.FilteredState.{FilteredState}
+use Rattle.rts_smoother.specs.declared.StateResult.{StateResult}
+use Rattle.rts_smoother.specs.declared.RtsSmoother.{RtsSmoother}
+use Rattle.rts_smoother.specs.declared.Stored.{Stored}
+use Rattle.rts_smoother.specs.declared.CountResult.{CountResult}
+use Rattle.rts_smoother.specs.declared.CountResult.the-variants as Count
+use Rattle.rts_smoother.specs.Smoother.{Slot}
+use Rattle.rts_smoother.specs.Buffer.{stride, slotNumbers, placed, counted, buffered}
+
+-- ---- slots
+abbrev pub estimate : Vector → Matrix → Estimate
+estimate x P = record { state = x; covariance = P }
+
+-- the slot in a record, and in arrays of rows with the size n beside them
+abbrev pub slotOf : FilteredState → Slot
+slotOf s = record {
+  filtered = estimate (cut (s .n) (s .x)) (usedFlat (s .n) (s .n) (s .p));
+  predicted = estimate (cut (s .n) (s .«x_pred»)) (usedFlat (s .n) (s .n) (s .«p_pred»));
+}
+
+abbrev pub slotFrom : ℕ → List Float → List (List Float) → List Float → List (List Float) → Slot
+slotFrom n x p y q = record { filtered = estimate (cut n x) (used n n p); predicted = estimate (cut n y) (used n n q) }
+
+-- the record of a slot; a matrix stands flat, +0 outside its sizes
+abbrev pub recordOf : ℕ → Slot → FilteredState
+recordOf n s = record {
+  n = n;
+  x = padRow (s .filtered .state);
+  p = flatOfRows (pad (s .filtered .covariance));
+  «x_pred» = padRow (s .predicted .state);
+  «p_pred» = flatOfRows (pad (s .predicted .covariance));
+}
+
+-- refused with 1: no size; beside a refusal the record is of size 0, and +0 everywhere
+abbrev pub stateResult : Answer FilteredState → StateResult
+stateResult (refused k) = record { status = Refused k; state = recordOf 0 (record { filtered = estimate [] []; predicted = estimate [] [] }) }
+stateResult (answered s) = record { status = Done; state = s }
+
+abbrev pub stateFrom : ℕ → List Float → List (List Float) → List Float → List (List Float) → StateResult
+stateFrom n x p y q = stateResult (where-sized (sized n) (recordOf n (slotFrom n x p y q)))
+
+-- ---- the smoother's record; a refusal leaves it unchanged
+abbrev pub smoother : ℕ → ℕ → ℕ → RtsSmoother
+smoother n T c = record { n = n; room = T; count = c }
+
+abbrev pub fits : RtsSmoother → Bool
+fits m = counted (m .n) (m .room) (m .count)
+
+abbrev pub stored : RtsSmoother → Answer RtsSmoother → Stored
+stored m (refused k) = record { answer = Refused k; smoother = m }
+stored m (answered o) = record { answer = Done; smoother = o }
+
+-- no slot is stored; beside a refusal there is no room
+abbrev pub newOf : ℕ → ℕ → Stored
+newOf n T = stored (smoother 0 0 0) (where-sized (counted n T 0) (smoother n T 0))
+
+abbrev pub resetOf : RtsSmoother → Stored
+resetOf m = stored m (where-sized (fits m) (smoother (m .n) (m .room) 0))
+
+abbrev pub asCount : Answer ℕ → CountResult
+asCount (refused k) = Count.Refused k
+asCount (answered c) = Count.Value c
+
+abbrev pub lenOf : RtsSmoother → CountResult
+lenOf m = asCount (where-sized (fits m) (m .count))
+
+abbrev pub isEmptyOf : RtsSmoother → TestResult
+isEmptyOf m = asTest (where-sized (fits m) (eqb (m .count) 0))
+
+-- ---- calls that are lent a buffer: what they tell, and what the buffer holds in the end
+pub record Left (R : Type 0) : Type 0 where
+  pub told : R
+  pub content : List Float
+
+abbrev pub left : {R : Type 0} → R → List Float → Left R
+left r b = record { told = r; content = b }
+
+-- a buffer of m numbers, and a slot of the smoother's size
+unfoldable pub storable : ℕ → ℕ → ℕ → ℕ → ℕ → Bool
+storable m n T c size = buffered m n T c && eqb n size
+
+-- the buffer with one slot more: refused with 1 for the sizes, with 5 where the count is T
+abbrev pub storeForward : RtsSmoother → List Float → FilteredState → Answer (List Float)
+storeForward m b s =
+    if-sized (storable (length b) (m .n) (m .room) (m .count) (s .n))
+    (refused-if (leb (m .room) (m .count)) 5 (placed (m .count * stride (m .n)) (slotNumbers (slotOf s)) b))
+
+abbrev pub storedIn : RtsSmoother → List Float → Answer (List Float) → Left Stored
+storedIn m b (refused k) = left (record { answer = Refused k; smoother = m }) b
+storedIn m b (answered l) = left (record { answer = Done; smoother = smoother (m .n) (m .room) (m .count + 1) }) l
+
+abbrev pub storeOf : RtsSmoother → List Float → FilteredState → Left Stored
+storeOf m b s = storedIn m b (storeForward m b s)
+
+-- why slot k cannot be handed out: 1 for the sizes, 6 where k is not below the count, 0 for neither
+abbrev pub getStateRefusal : RtsSmoother → List Float → ℕ → ℕ
+getStateRefusal m b k = cond (buffered (length b) (m .n) (m .room) (m .count)) (cond (ltb k (m .count)) 0 6) 1
+
+-- slot k's numbers as they lie in the buffer; none where it cannot be handed out
+abbrev pub getState : RtsSmoother → List Float → ℕ → List Float
+getState m b k = cond (eqb (getStateRefusal m b k) 0) (take (stride (m .n)) (drop (k * stride (m .n)) b)) []

@@ -1,0 +1,37 @@
+-- The smoother of Rauch, Tung and Striebel, for any state size and any number of slots, in the order of rounding of rts_smoother.rs. Definitions only.
+use Prim.Native.Nat.{ℕ}
+use mathlib.Core.List.{List}
+use Rattle.matrix.specs.Answer.{Answer, mapped}
+use Rattle.matrix.specs.Matrix.{Matrix, mul, matvec, add, sub, transpose, vecAdd, vecSub}
+use Rattle.inverse.specs.Inverse.{inv}
+use Rattle.kalman.specs.Kalman.{Estimate, gain}
+use Rattle.rts_smoother.specs.Backward.{pass}
+
+-- a filtered pair, and the pair predicted for the next slot
+pub record Slot : Type 0 where
+  pub filtered : Estimate
+  pub predicted : Estimate
+
+-- a state size, a transition and the stored slots in order
+pub record Duty : Type 0 where
+  pub size : ℕ
+  pub transition : Matrix
+  pub slots : List Slot
+
+-- filtered covariance × transposed F × inverted predicted covariance; refused with 3 where inversion rejects the predicted covariance
+unfoldable pub slotGain : ℕ → Matrix → Slot → Answer Matrix
+slotGain n F s = mapped (gain n n (s .filtered .covariance) F) (inv n (s .predicted .covariance))
+
+-- x + G d, and P + (G D) Gᵀ: d and D are the smoothed pair of the next slot less the predicted pair
+unfoldable pub move : ℕ → Slot → Matrix → Estimate → Estimate
+move n s G next = record {
+  state = vecAdd n (s .filtered .state) (matvec n n G (vecSub n (next .state) (s .predicted .state)));
+  covariance = add n n (s .filtered .covariance) (mul n n n (mul n n n G (sub n n (next .covariance) (s .predicted .covariance))) (transpose n n G));
+}
+
+-- the slots l with state size n and transition F, from the last back
+unfoldable pub smoothed : ℕ → Matrix → List Slot → Answer (List Estimate)
+smoothed n F l = pass (λ s. s .filtered) (slotGain n F) (move n) l
+
+unfoldable pub smooth : Duty → Answer (List Estimate)
+smooth d = smoothed (d .size) (d .transition) (d .slots)

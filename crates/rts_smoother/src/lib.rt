@@ -1,0 +1,302 @@
+// src/estimator/rts_smoother.rs at f64: the smoother of Rauch, Tung and Striebel. Slots lie in a buffer that
+// the caller lends: slot k is 2n + 2n² numbers, state, covariance by rows, predicted state, predicted covariance.
+ghost use mathlib.Core.Path.{_≡_};
+ghost use Prim.Native.Nat.{_+_, _*_, _≤_};
+ghost use lib.ListN.{length};
+ghost use mathlib.Core.Bool.{true};
+ghost use Rattle.matrix.specs.Array.{cut, used, pad};
+ghost use Rattle.matrix.specs.Kernel.{flatOfRows};
+ghost use Rattle.matrix.specs.Result.{sized};
+ghost use Rattle.rts_smoother.specs.Buffer.{stride, joined, pairNumbers, slotNumbers, placed, roomy, counted, buffered};
+ghost use Rattle.rts_smoother.specs.Record.{estimate, slotOf, storable, left, stateFrom, newOf, resetOf, lenOf, isEmptyOf, storeOf, getStateRefusal, getState};
+use matrix::Status;
+use matrix::TestResult;
+use matrix::kernel;
+
+// One slot: the filtered state x and covariance p, n by n, and the predicted pair. A matrix stands flat, four
+// numbers a row; what stands outside its sizes is ignored.
+pub struct FilteredState {
+    pub n: usize,
+    pub x: [f64; 4],
+    pub p: [f64; 16],
+    pub x_pred: [f64; 4],
+    pub p_pred: [f64; 16],
+}
+
+// A slot beside its case.
+pub struct StateResult {
+    pub status: Status,
+    pub state: FilteredState,
+}
+
+// Room for `room` slots of state size n, of which the first `count` are stored. The slots are in a lent buffer.
+pub struct RtsSmoother {
+    pub n: usize,
+    pub room: usize,
+    pub count: usize,
+}
+
+// A call's answer, and the smoother that it leaves.
+pub struct Stored {
+    pub answer: Status,
+    pub smoother: RtsSmoother,
+}
+
+// A count, or the refusal.
+pub enum CountResult {
+    Value(usize),
+    Refused(u8),
+}
+
+// ---- sizes, tested by one bool
+
+// Room for 1 to 64 slots.
+fn is_room(room: usize) -> bool
+    ensures { λ t. ⌜ t ≡ roomy room ⌝ }
+{
+    matrix::both(1 <= room, room <= 64)
+}
+
+fn is_counted(n: usize, room: usize, count: usize) -> bool
+    ensures { λ t. ⌜ t ≡ counted n room count ⌝ }
+{
+    matrix::both(
+        matrix::is_size(n),
+        matrix::both(is_room(room), count <= room),
+    )
+}
+
+// How many numbers a slot takes.
+fn stride_of(n: usize) -> usize
+    requires { ⌜ n ≤ 4 ⌝ }
+    ensures { λ r. ⌜ r ≡ stride n ⌝ }
+{
+    2 * n + 2 * (n * n)
+}
+
+// The sizes, and that a buffer of len numbers is just room slots long.
+fn is_buffered(len: usize, n: usize, room: usize, count: usize) -> bool
+    ensures { λ t. ⌜ t ≡ buffered len n room count ⌝ }
+{
+    if is_counted(n, room, count) {
+        len == room * stride_of(n)
+    } else {
+        false
+    }
+}
+
+// And that a slot has the smoother's size.
+fn is_storable(len: usize, n: usize, room: usize, count: usize, size: usize) -> bool
+    ensures { λ t. ⌜ t ≡ storable len n room count size ⌝ }
+{
+    matrix::both(is_buffered(len, n, room, count), n == size)
+}
+
+// ---- numbers into a buffer, from number k on; every other number stays
+
+fn put_vector(b: &mut [f64], k: usize, v: [f64; 4], n: usize)
+    requires { ⌜ (n ≤ 4) × (k + n ≤ length (now b)) ⌝ }
+    ensures { λ r. ⌜ now (b .exit) ≡ placed k (cut n v) (now (b .entry)) ⌝ }
+{
+    for i in 0..n {
+        b[k + i] = v[i];
+    }
+}
+
+// The rows, one after another.
+fn put_matrix(b: &mut [f64], k: usize, m: &[[f64; 4]; 4], n: usize)
+    requires { ⌜ (n ≤ 4) × (k + n * n ≤ length (now b)) ⌝ }
+    ensures { λ r. ⌜ now (b .exit) ≡ placed k (joined (used n n (now (m .entry)))) (now (b .entry)) ⌝ }
+{
+    for i in 0..n {
+        put_vector(b, k + i * n, m[i], n);
+    }
+}
+
+// A state, then its covariance.
+fn put_pair(b: &mut [f64], k: usize, x: [f64; 4], p: &[[f64; 4]; 4], n: usize)
+    requires { ⌜ (n ≤ 4) × (k + (n + n * n) ≤ length (now b)) ⌝ }
+    ensures { λ r. ⌜ now (b .exit) ≡ placed k (pairNumbers (estimate (cut n x) (used n n (now (p .entry))))) (now (b .entry)) ⌝ }
+{
+    put_vector(b, k, x, n);
+    put_matrix(b, k + n, p, n);
+}
+
+// A slot: its filtered pair, then its predicted pair.
+fn put_slot(b: &mut [f64], k: usize, s: FilteredState)
+    requires { ⌜ (s .n ≤ 4) × (k + stride (s .n) ≤ length (now b)) ⌝ }
+    ensures { λ r. ⌜ now (b .exit) ≡ placed k (slotNumbers (slotOf s)) (now (b .entry)) ⌝ }
+{
+    let n = s.n;
+    let p = kernel::from_flat(&s.p);
+    let q = kernel::from_flat(&s.p_pred);
+    put_pair(b, k, s.x, &p, n);
+    put_pair(b, k + (n + n * n), s.x_pred, &q, n);
+}
+
+// The used part of an array of rows, flat, +0 outside.
+fn flat_part(a: &[[f64; 4]; 4], n: usize) -> [f64; 16]
+    requires { ⌜ sized n ≡ true ⌝ }
+    ensures { λ f. ⌜ f ≡ flatOfRows (pad (used n n (now (a .entry)))) ⌝ }
+{
+    let rows = kernel::used_part(a, n, n);
+    kernel::to_flat(&rows)
+}
+
+impl FilteredState {
+    // The slot given by the used parts of arrays of rows. Refused with 1: n is no size.
+    pub fn new(
+        n: usize,
+        x: [f64; 4],
+        p: [[f64; 4]; 4],
+        x_pred: [f64; 4],
+        p_pred: [[f64; 4]; 4],
+    ) -> StateResult
+        ensures { λ r. ⌜ r ≡ stateFrom n x p «x_pred» «p_pred» ⌝ }
+    {
+        if matrix::is_size(n) {
+            StateResult {
+                status: Status::Done,
+                state: FilteredState {
+                    n,
+                    x: matrix::kept(x, n),
+                    p: flat_part(&p, n),
+                    x_pred: matrix::kept(x_pred, n),
+                    p_pred: flat_part(&p_pred, n),
+                },
+            }
+        } else {
+            StateResult {
+                status: Status::Refused(1),
+                state: FilteredState {
+                    n: 0,
+                    x: [0.0; 4],
+                    p: [0.0; 16],
+                    x_pred: [0.0; 4],
+                    p_pred: [0.0; 16],
+                },
+            }
+        }
+    }
+}
+
+impl RtsSmoother {
+    // Room for `room` slots of state size n, none stored. Refused with 1: n is no size, or room is not 1 to 64.
+    pub fn new(n: usize, room: usize) -> Stored
+        ensures { λ r. ⌜ r ≡ newOf n room ⌝ }
+    {
+        if is_counted(n, room, 0) {
+            Stored {
+                answer: Status::Done,
+                smoother: RtsSmoother { n, room, count: 0 },
+            }
+        } else {
+            Stored {
+                answer: Status::Refused(1),
+                smoother: RtsSmoother {
+                    n: 0,
+                    room: 0,
+                    count: 0,
+                },
+            }
+        }
+    }
+
+    // No slot is stored any more; the buffer is not touched. Refused with 1: a size of the record, or its count.
+    pub fn reset(self) -> Stored
+        ensures { λ r. ⌜ r ≡ resetOf self ⌝ }
+    {
+        if is_counted(self.n, self.room, self.count) {
+            let mut next = self;
+            next.count = 0;
+            Stored {
+                answer: Status::Done,
+                smoother: next,
+            }
+        } else {
+            Stored {
+                answer: Status::Refused(1),
+                smoother: self,
+            }
+        }
+    }
+
+    // How many slots are stored. Refused with 1: a size of the record, or its count.
+    pub fn len(self) -> CountResult
+        ensures { λ r. ⌜ r ≡ lenOf self ⌝ }
+    {
+        if is_counted(self.n, self.room, self.count) {
+            CountResult::Value(self.count)
+        } else {
+            CountResult::Refused(1)
+        }
+    }
+
+    // Whether no slot is stored. Refused with 1: a size of the record, or its count.
+    pub fn is_empty(self) -> TestResult
+        ensures { λ r. ⌜ r ≡ isEmptyOf self ⌝ }
+    {
+        if is_counted(self.n, self.room, self.count) {
+            TestResult::Value(self.count == 0)
+        } else {
+            TestResult::Refused(1)
+        }
+    }
+
+    // One slot more, after those stored. Refused with 1: a size or the count of the record, a slot of another
+    // size, a buffer that is not just room slots long; with 5: the count is the room. Then nothing changes.
+    pub fn store_forward(self, slots: &mut [f64], state: FilteredState) -> Stored
+        ensures { λ r. ⌜ left r (now (slots .exit)) ≡ storeOf self (now (slots .entry)) state ⌝ }
+    {
+        let n = self.n;
+        let count = self.count;
+        if is_storable(slots.len(), n, self.room, count, state.n) {
+            if count < self.room {
+                put_slot(slots, count * stride_of(n), state);
+                let mut next = self;
+                next.count = count + 1;
+                Stored {
+                    answer: Status::Done,
+                    smoother: next,
+                }
+            } else {
+                Stored {
+                    answer: Status::Refused(5),
+                    smoother: self,
+                }
+            }
+        } else {
+            Stored {
+                answer: Status::Refused(1),
+                smoother: self,
+            }
+        }
+    }
+
+    // Why slot k cannot be handed out: 1 for a size, the count or the buffer's length, 6 where k is not below
+    // the count, 0 for neither.
+    pub fn get_state_refusal(self, slots: &[f64], k: usize) -> u8
+        ensures { λ r. ⌜ r ≡ getStateRefusal self (now (slots .entry)) k ⌝ }
+    {
+        if is_buffered(slots.len(), self.n, self.room, self.count) {
+            if k < self.count { 0 } else { 6 }
+        } else {
+            1
+        }
+    }
+
+    // Slot k, as that part of the buffer itself; an empty part where it cannot be handed out.
+    pub fn get_state(self, slots: &[f64], k: usize) -> &[f64]
+        ensures { λ r. ⌜ now r ≡ getState self (now (slots .entry)) k ⌝ }
+    {
+        let n = self.n;
+        if self.get_state_refusal(slots, k) == 0 {
+            let stride = stride_of(n);
+            let from = k * stride;
+            let end = from + stride;
+            &slots[from..end]
+        } else {
+            &slots[..0]
+        }
+    }
+}
