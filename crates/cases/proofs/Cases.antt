@@ -29,4 +29,7 @@ cases = record {
   cholesky-of-nan = refl;
   cholesky-sum = refl;
   tracking = refl;
+  smoothing = refl;
+  smoothing-rejected = refl;
+  smoothing-no-slot = refl;
 }

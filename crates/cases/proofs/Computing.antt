@@ -7,6 +7,8 @@ use Rattle.matrix.specs.Matrix as Matrix
 use Rattle.inverse.specs.Inverse as Inverse
 use Rattle.cholesky.specs.Cholesky as Cholesky
 use Rattle.kalman.specs.Kalman as Kalman
+use Rattle.rts_smoother.specs.Backward as Backward
+use Rattle.rts_smoother.specs.Smoother as Smoother
 
 unfoldable pub computing : ℕ
 unfolding Ieee.ofBits Ieee.toBits Ieee.round Ieee.add Ieee.sub Ieee.mul Ieee.div Ieee.lt Ieee.le
@@ -15,4 +17,5 @@ unfolding Ieee.ofBits Ieee.toBits Ieee.round Ieee.add Ieee.sub Ieee.mul Ieee.div
     Inverse.noPivot Inverse.pivotRow Inverse.swapped Inverse.scaledRow Inverse.reduced Inverse.exchanged Inverse.cleared Inverse.column Inverse.columns Inverse.inv
     Cholesky.noDiagonal Cholesky.diagonalOf Cholesky.leftCells Cholesky.factorRow Cholesky.factorRows Cholesky.choleskyOf
     Kalman.propagated Kalman.gain Kalman.innovationOf Kalman.corrected Kalman.predict Kalman.correction Kalman.update Kalman.tracker Kalman.atStart
+    Backward.back Backward.pass Smoother.slotGain Smoother.move Smoother.smoothed Smoother.smooth
 computing = 0

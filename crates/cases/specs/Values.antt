@@ -15,6 +15,9 @@ n1 = fin false 1 (pos 0)
 abbrev pub n2 : Float
 n2 = fin false 1 (pos 1)
 
+abbrev pub n3 : Float
+n3 = fin false 3 (pos 0)
+
 abbrev pub n4 : Float
 n4 = fin false 1 (pos 2)
 
@@ -60,6 +63,9 @@ abbrev pub ½ : Float
 
 abbrev pub ¼ : Float
 ¼ = fin false 1 (negsuc 1)
+
+abbrev pub ¾ : Float
+¾ = fin false 3 (negsuc 1)
 
 -- 1 / 3 rounded, bits 3FD5555555555555; and 1 less that, bits 3FE5555555555556
 abbrev pub ⅓ : Float
