@@ -19,7 +19,7 @@ use Rattle.matrix.proofs.Matrices.{Shape, shape-mul}
 use Rattle.matrix.proofs.Arrays.{used-pad, cut-padRow, kept-sized}
 use Rattle.matrix.proofs.Vectors.{length-vecSub}
 use Rattle.matrix.proofs.Results.{Size, size-of, sized-true, shaped-true}
-use Rattle.matrix.proofs.Kernels.{shape-add}
+use Rattle.matrix.proofs.Kernels.{flat-sized, shape-add}
 use Rattle.inverse.specs.Inverse.{inv}
 use Rattle.inverse.proofs.Laws.{inv-shape}
 use Rattle.kalman.specs.declared.KalmanFilter.{KalmanFilter}
@@ -133,10 +133,6 @@ update-unsized f a h q = (λ i. record { answer = q i; filter = f }) ∙ ap (λ 
 
 -- ---- a filter made of arrays of rows
 
--- the used part of rows, flat, as the code makes it
-flat-used : (r c : ℕ) (a : List (List Float)) {f : List Float} → Size r → Size c → f ≡ flatOfRows (rowsOf (where-sized (shaped r c) (used r c a))) → f ≡ flat (used r c a)
-flat-used r c a R C e = e ∙ ap (λ (b : Bool). flatOfRows (rowsOf (where-sized b (used r c a)))) (shaped-true R C)
-
 abbrev flatPart : ℕ → ℕ → List (List Float) → List Float
 flatPart r c a = flatOfRows (rowsOf (where-sized (shaped r c) (used r c a)))
 
@@ -155,13 +151,13 @@ new-done n m i a b h q r p0 x0 t ea eb eh eq er ex ep =
         n = n;
         m = m;
         i = i;
-        a = flat-used n n a N N ea k;
-        b = flat-used n i b N I eb k;
-        h = flat-used m n h M N eh k;
-        q = flat-used n n q N N eq k;
-        r = flat-used m m r M M er k;
+        a = flat-sized _ (shaped-true N N) ea k;
+        b = flat-sized _ (shaped-true N I) eb k;
+        h = flat-sized _ (shaped-true M N) eh k;
+        q = flat-sized _ (shaped-true N N) eq k;
+        r = flat-sized _ (shaped-true M M) er k;
         x = (ex ∙ kept-sized n x0 N) k;
-        p = flat-used n n p0 N N ep k;
+        p = flat-sized _ (shaped-true N N) ep k;
       };
     })
     ∙ ap (λ (c : Bool). stepped noFilter (where-sized c (recordOf (modelFrom n m i a b h q r) (record { state = cut n x0; covariance = used n n p0 })))) (sym t)
@@ -169,4 +165,4 @@ new-done n m i a b h q r p0 x0 t ea eb eh eq er ex ep =
 pub reset-done : {t : Bool} (f : KalmanFilter) (x : List Float) (p : List (List Float)) {fx fp : List Float} → t ≡ true → Size (f .n)
     → fx ≡ padRow (cut (sizeOrFour (f .n)) x) → fp ≡ flatPart (f .n) (f .n) p
     → _≡_ {A = Stepped} (record { answer = Done; filter = keeping f fx fp }) (stepped f (where-sized t (holding f (record { state = cut (f .n) x; covariance = used (f .n) (f .n) p }))))
-reset-done f x p h N ex ep = step-done f (record { state = cut (f .n) x; covariance = used (f .n) (f .n) p }) h (ex ∙ kept-sized (f .n) x N) (flat-used (f .n) (f .n) p N N ep)
+reset-done f x p h N ex ep = step-done f (record { state = cut (f .n) x; covariance = used (f .n) (f .n) p }) h (ex ∙ kept-sized (f .n) x N) (flat-sized _ (shaped-true N N) ep)

@@ -2,11 +2,10 @@
 // and hands back its answer and the record that it leaves; a refusal leaves it unchanged.
 ghost use mathlib.Core.Path.{_≡_};
 ghost use mathlib.Core.Bool.{true};
-ghost use Rattle.matrix.specs.Answer.{answered, where-sized};
+ghost use Rattle.matrix.specs.Answer.{answered};
 ghost use Rattle.matrix.specs.Matrix.{vecAdd, matvec};
 ghost use Rattle.matrix.specs.Array.{cut, used, usedFlat, padRow, pad};
-ghost use Rattle.matrix.specs.Kernel.{rowsOf, flatOfRows};
-ghost use Rattle.matrix.specs.Result.{sized, shaped, asMatrix};
+ghost use Rattle.matrix.specs.Result.{sized, asMatrix};
 ghost use Rattle.inverse.specs.Inverse.{inv as invOf};
 ghost use Rattle.kalman.specs.Kalman.{propagated as propagatedOf, gain as gainOf, innovationOf, corrected as correctedOf, correction, update as updateOfModel};
 ghost use Rattle.kalman.specs.Record.{modelOf, modelFrom, estimateOf, noFilter, newOf, trackerOf, wellSized, fitting, told, stateOf, covarianceOf, predictOf, resetOf, updateOf, updateOneOf};
@@ -205,14 +204,6 @@ fn updated_filter(f: KalmanFilter, z: [f64; 4]) -> Updated
     }
 }
 
-// The used part of an array of rows, flat, +0 outside; all +0 where r or c is no size.
-fn flat_part(a: &[[f64; 4]; 4], r: usize, c: usize) -> [f64; 16]
-    ensures { λ f. ⌜ f ≡ flatOfRows (rowsOf (where-sized (shaped r c) (used r c (now (a .entry))))) ⌝ }
-{
-    let rows = kernel::used_part(a, r, c);
-    kernel::to_flat(&rows)
-}
-
 // What stands beside a refusal: no sizes, and +0 everywhere.
 fn no_filter() -> KalmanFilter
     ensures { λ f. ⌜ f ≡ noFilter ⌝ }
@@ -343,8 +334,7 @@ impl KalmanFilter {
     {
         let n = self.n;
         if is_fitting(n, self.m, self.i, n, k) {
-            let rows = kernel::used_part(&p, n, n);
-            let flat = kernel::to_flat(&rows);
+            let flat = kernel::flat_part(&p, n, n);
             let state = matrix::kept(x, n);
             let mut restarted = self;
             restarted.x = state;
@@ -381,13 +371,13 @@ impl KalmanFilter {
                 n,
                 m,
                 i,
-                a: flat_part(&a, n, n),
-                b: flat_part(&b, n, i),
-                h: flat_part(&h, m, n),
-                q: flat_part(&q, n, n),
-                r: flat_part(&r, m, m),
+                a: kernel::flat_part(&a, n, n),
+                b: kernel::flat_part(&b, n, i),
+                h: kernel::flat_part(&h, m, n),
+                q: kernel::flat_part(&q, n, n),
+                r: kernel::flat_part(&r, m, m),
                 x: matrix::kept(x0, n),
-                p: flat_part(&p0, n, n),
+                p: kernel::flat_part(&p0, n, n),
             };
             Stepped {
                 answer: Status::Done,

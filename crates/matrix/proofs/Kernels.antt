@@ -76,6 +76,9 @@ module _ {t : Bool} where
 pub rows-sized : {t : Bool} (A : Matrix) {p : List (List Float)} → t ≡ true → p ≡ rowsOf (where-sized t A) → p ≡ pad A
 rows-sized A e q = as-sized rowsOf A e q
 
+pub flat-sized : {t : Bool} (A : Matrix) {f : List Float} → t ≡ true → f ≡ flatOfRows (rowsOf (where-sized t A)) → f ≡ flatOfRows (pad A)
+flat-sized A e q = q ∙ ap (λ (b : Bool). flatOfRows (rowsOf (where-sized b A))) e
+
 pub cells-sized : {t : Bool} (v : Vector) {p : List Float} → t ≡ true → p ≡ cellsOf (where-sized t v) → p ≡ padRow v
 cells-sized v e q = as-sized cellsOf v e q
 

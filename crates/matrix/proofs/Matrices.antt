@@ -1,17 +1,17 @@
 -- Laws of sums and of matrices, for sizes that vary: shape, cells, and what a result reads. Assumes nothing.
 use mathlib.Core.Path.{_≡_, refl, sym, ap, ap₂, _∙_}
 use mathlib.Core.List.{List, [], _∷_}
-use mathlib.Core.Bool.{cond}
+use mathlib.Core.Bool.{_&&_, cond}
 use Prim.Native.Nat.{ℕ, zero, suc, _+_, _≤_, _<_, suc-le-suc}
 use native.Mathlib.Nat.{le-of-lt, le-refl}
 use native.Mathlib.Numerals.{add-one}
 use native.Mathlib.Omega.{arith}
 use lib.Dec.{eqb}
 use lib.ListN.{length}
-use lib.Ieee.{Float, nan}
+use lib.Ieee.{Float, nan, neg}
 use Rattle.scalar.specs.Number.{_⊕_, _⊗_, +0, one}
 use Rattle.matrix.specs.Table.{table}
-use Rattle.matrix.specs.Matrix.{Vector, Matrix, at, row, cell, mat, sumFrom, sum, mul, matvec, transpose, identity}
+use Rattle.matrix.specs.Matrix.{Vector, Matrix, at, row, cell, mat, sumFrom, sum, mul, matvec, transpose, identity, filled, zeros, scale, negated, set}
 use Rattle.matrix.proofs.Tables.{length-table, getD-table, table-ext}
 
 -- ---- sums
@@ -82,6 +82,26 @@ shape-transpose r c A = shape-mat c r (λ i j. cell A j i)
 pub shape-identity : (n : ℕ) → Shape n n (identity n)
 unfolding identity
 shape-identity n = shape-mat n n (λ i j. cond (eqb i j) one +0)
+
+pub shape-filled : (r c : ℕ) (x : Float) → Shape r c (filled r c x)
+unfolding filled
+shape-filled r c x = shape-mat r c (λ i j. x)
+
+pub shape-zeros : (r c : ℕ) → Shape r c (zeros r c)
+unfolding zeros
+shape-zeros r c = shape-filled r c +0
+
+pub shape-scale : (r c : ℕ) (A : Matrix) (s : Float) → Shape r c (scale r c A s)
+unfolding scale
+shape-scale r c A s = shape-mat r c (λ i j. cell A i j ⊗ s)
+
+pub shape-negated : (r c : ℕ) (A : Matrix) → Shape r c (negated r c A)
+unfolding negated
+shape-negated r c A = shape-scale r c A (neg one)
+
+pub shape-set : (r c i j : ℕ) (x : Float) (A : Matrix) → Shape r c (set r c i j x A)
+unfolding set
+shape-set r c i j x A = shape-mat r c (λ p q. cond (eqb p i && eqb q j) x (cell A p q))
 
 -- ---- cells
 pub cell-mat : (r c : ℕ) (f : ℕ → ℕ → Float) (i j : ℕ) → i < r → j < c → cell (mat r c f) i j ≡ f i j

@@ -84,14 +84,6 @@ module _ {ℓ} {A : Type ℓ} where
   getD-padTo m z l i d h = List·getD-append l (drop (length l) (replicate m z)) d i h
 
 module _ {ℓ κ} {A : Type ℓ} {B : Type κ} where
-  -- a table of what F makes of each element, after a store
-  pub table-set : (F : A → B) (n : ℕ) (l : List A) (p : ℕ) (x d : A) → n ≤ length l
-      → table n (λ i. F (getD (set l p x) i d)) ≡ set (table n (λ i. F (getD l i d))) p (F x)
-  table-set F zero l p x d h = refl
-  table-set F (suc n) [] p x d h = absurd (not-suc-le-zero h)
-  table-set F (suc n) (y ∷ l) zero x d h = refl
-  table-set F (suc n) (y ∷ l) (suc p) x d h = ap (λ (t : List B). F y ∷ t) (table-set F n l p x d (le-of-suc-le-suc h))
-
   pub map-table : (F : A → B) (n : ℕ) (f : ℕ → A) → mathlib.Core.List.map F (table n f) ≡ table n (λ i. F (f i))
   map-table F zero f = refl
   map-table F (suc n) f = ap (λ (t : List B). F (f zero) ∷ t) (map-table F n (λ i. f (suc i)))

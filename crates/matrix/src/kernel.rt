@@ -1,5 +1,5 @@
-// The operations behind references, for the crates above: no matrix is copied. Each tests its sizes and
-// gives all +0 where they are wrong.
+// The operations behind references, for the crates above: no matrix is copied. Each that takes sizes tests
+// them, and gives all +0 where they are wrong.
 use crate::is_chained;
 use crate::is_shape;
 use crate::is_size;
@@ -28,6 +28,7 @@ fn row_difference(v: [f64; 4], w: [f64; 4]) -> [f64; 4]
     [v[0] - w[0], v[1] - w[1], v[2] - w[2], v[3] - w[3]]
 }
 
+// Each number times s.
 pub fn row_scaled(v: [f64; 4], s: f64) -> [f64; 4]
     ensures { λ r. ⌜ r ≡ table 4 (λ j. at v j ⊗ s) ⌝ }
 {
@@ -255,6 +256,7 @@ pub fn vector_difference(v: [f64; 4], w: [f64; 4], n: usize) -> [f64; 4]
 
 // ---- a record's flat cells
 
+// The four numbers from place k on.
 fn four_from(f: &[f64; 16], k: usize) -> [f64; 4]
     requires { ⌜ k ≤ 12 ⌝ }
     ensures { λ r. ⌜ r ≡ table 4 (λ j. at (now (f .entry)) (k + j)) ⌝ }
@@ -282,4 +284,12 @@ pub fn to_flat(rows: &[[f64; 4]; 4]) -> [f64; 16]
         out[n] = rows[n / 4][n % 4];
     }
     out
+}
+
+// The used part of an array of rows, flat, +0 outside; all +0 where r or c is no size.
+pub fn flat_part(a: &[[f64; 4]; 4], r: usize, c: usize) -> [f64; 16]
+    ensures { λ f. ⌜ f ≡ flatOfRows (rowsOf (where-sized (shaped r c) (used r c (now (a .entry))))) ⌝ }
+{
+    let rows = used_part(a, r, c);
+    to_flat(&rows)
 }

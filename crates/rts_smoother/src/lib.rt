@@ -3,10 +3,7 @@
 ghost use mathlib.Core.Path.{_≡_};
 ghost use Prim.Native.Nat.{_+_, _*_, _≤_};
 ghost use lib.ListN.{length};
-ghost use mathlib.Core.Bool.{true};
-ghost use Rattle.matrix.specs.Array.{cut, used, pad};
-ghost use Rattle.matrix.specs.Kernel.{flatOfRows};
-ghost use Rattle.matrix.specs.Result.{sized};
+ghost use Rattle.matrix.specs.Array.{cut, used};
 ghost use Rattle.rts_smoother.specs.Buffer.{stride, joined, pairNumbers, slotNumbers, placed, roomy, counted, buffered};
 ghost use Rattle.rts_smoother.specs.Record.{estimate, slotOf, storable, left, stateFrom, newOf, resetOf, lenOf, isEmptyOf, storeOf, getStateRefusal, getState};
 use matrix::Status;
@@ -134,15 +131,6 @@ fn put_slot(b: &mut [f64], k: usize, s: FilteredState)
     put_pair(b, k + (n + n * n), s.x_pred, &q, n);
 }
 
-// The used part of an array of rows, flat, +0 outside.
-fn flat_part(a: &[[f64; 4]; 4], n: usize) -> [f64; 16]
-    requires { ⌜ sized n ≡ true ⌝ }
-    ensures { λ f. ⌜ f ≡ flatOfRows (pad (used n n (now (a .entry)))) ⌝ }
-{
-    let rows = kernel::used_part(a, n, n);
-    kernel::to_flat(&rows)
-}
-
 impl FilteredState {
     // The slot given by the used parts of arrays of rows. Refused with 1: n is no size.
     pub fn new(
@@ -160,9 +148,9 @@ impl FilteredState {
                 state: FilteredState {
                     n,
                     x: matrix::kept(x, n),
-                    p: flat_part(&p, n),
+                    p: kernel::flat_part(&p, n, n),
                     x_pred: matrix::kept(x_pred, n),
-                    p_pred: flat_part(&p_pred, n),
+                    p_pred: kernel::flat_part(&p_pred, n, n),
                 },
             }
         } else {

@@ -1,9 +1,9 @@
--- `flat_part` meets its contract.
+-- `kernel::flat_part` meets its contract: the used part, laid flat.
 use mathlib.Core.Path.{ap, _∙_}
-use Rattle.matrix.specs.Kernel.{flatOfRows}
 use borrow.Author.Needs.{needs}
-use Rattle.kalman.proofs.flat_part.Statement.{statement}
-use Rattle.kalman.proofs.flat_part.Tie as tie
+use Rattle.matrix.specs.Kernel.{flatOfRows}
+use Rattle.matrix.proofs.kernel.flat_part.Statement.{statement}
+use Rattle.matrix.proofs.kernel.flat_part.Tie as tie
 
 returns : tie.Need-returns
 returns c = c .to-flat .ensures ∙ ap flatOfRows (c .before .before .used-part .ensures)
