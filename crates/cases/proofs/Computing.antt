@@ -17,5 +17,5 @@ unfolding Ieee.ofBits Ieee.toBits Ieee.round Ieee.add Ieee.sub Ieee.mul Ieee.div
     Inverse.noPivot Inverse.pivotRow Inverse.swapped Inverse.scaledRow Inverse.reduced Inverse.exchanged Inverse.cleared Inverse.column Inverse.columns Inverse.inv
     Cholesky.noDiagonal Cholesky.diagonalOf Cholesky.leftCells Cholesky.factorRow Cholesky.factorRows Cholesky.choleskyOf
     Kalman.propagated Kalman.gain Kalman.innovationOf Kalman.corrected Kalman.predict Kalman.correction Kalman.update Kalman.tracker Kalman.atStart
-    Backward.back Backward.pass Smoother.slotGain Smoother.move Smoother.smoothed Smoother.smooth
+    Backward.back Backward.pass Smoother.slotGain Smoother.movedState Smoother.movedCovariance Smoother.move Smoother.smoothed Smoother.smooth
 computing = 0

@@ -4,6 +4,7 @@ use mathlib.Core.List.{List, [], _∷_, _++_, map}
 use Prim.Native.Nat.{ℕ, zero, suc, _<_, zero-le, suc-le-suc}
 use native.Mathlib.Nat.{le-of-suc-le-suc, not-suc-le-zero}
 use lib.ListN.{length, drop}
+use Rattle.matrix.specs.Table.{table}
 use Rattle.matrix.specs.Answer.{Answer, refused, answered, and-then, mapped}
 use Rattle.rts_smoother.specs.Backward.{Results, listed, in-front, back, pass, BeforeLast, this, later, Same, last, slot}
 use Rattle.matrix.proofs.Answers.{differ, same-refusal, same-answer}
@@ -34,10 +35,27 @@ module _ {G P : Type 0} where
   after-refused f h (refused j) k e = ap refused (same-refusal e)
   after-refused f h (answered q) k e = absurd (differ (sym e))
 
+-- every element has Q
+unfoldable pub Each : {A : Type 0} → (A → Type 0) → List A → Type 0
+Each Q [] = Unit
+Each Q (x ∷ l) = Q x × Each Q l
+
+pub each-table : {A : Type 0} (Q : A → Type 0) (n : ℕ) (f : ℕ → A) → ((i : ℕ) → Q (f i)) → Each Q (table n f)
+unfolding Each
+each-table Q zero f h = tt
+each-table Q (suc n) f h = (h zero, each-table Q n (λ i. f (suc i)) (λ i. h (suc i)))
+
 drop-past : {A : Type 0} (k : ℕ) (l : List A) → drop k (drop 1 l) ≡ drop (suc k) l
 drop-past zero [] = refl
 drop-past (suc k) [] = refl
 drop-past k (x ∷ l) = refl
+
+step-each : {G P : Type 0} (Q : P → Type 0) (f : P → G → P) → ((p : P) (g : G) → Q (f p g)) → (h : Answer G) (a : Answer (Results P)) (r : List P) → mapped listed (onto f h a) ≡ answered r
+    → Each Q (drop 1 r) → Each Q r
+unfolding Each
+step-each Q f m h (refused k) r e = absurd (differ e)
+step-each Q f m (refused k) (answered q) r e = absurd (differ e)
+step-each {P = P} Q f m (answered g) (answered q) r e = subst (λ (l : List P). Each Q (drop 1 l) → Each Q l) (same-answer e) (λ rest. (m (q .first) g, rest))
 
 -- a list with something from k on is longer than k
 pub reaches : {A : Type 0} (k : ℕ) (l : List A) {x : A} {m : List A} → drop k l ≡ x ∷ m → k < length l
@@ -77,6 +95,15 @@ module _ {S G P : Type 0} (start : S → P) (gain : S → Answer G) (move : S �
       step-count (λ p g. move s g p) (gain s) (back start gain move t l) r e
       ∙ ap suc (pass-count (t ∷ l) (drop 1 r) (step-tail (λ p g. move s g p) (gain s) (back start gain move t l) r e))
 
+  -- what holds of what start and move give holds of each result
+  pub pass-each : (Q : P → Type 0) → ((s : S) (g : G) (p : P) → Q (move s g p)) → (l : List S) → Each (λ s. Q (start s)) l → (r : List P) → pass start gain move l ≡ answered r → Each Q r
+  unfolding pass back Each
+  pass-each Q m [] h r e = absurd (differ e)
+  pass-each Q m (s ∷ []) h r e = subst (Each Q) (same-answer e) (h .0, tt)
+  pass-each Q m (s ∷ t ∷ l) h r e =
+      step-each Q (λ p g. move s g p) (λ p g. m s g p) (gain s) (back start gain move t l) r e
+      (pass-each Q m (t ∷ l) (h .1) (drop 1 r) (step-tail (λ p g. move s g p) (gain s) (back start gain move t l) r e))
+
   -- refused with slots: some slot before the last has no gain
   pub pass-refused : (s : S) (l : List S) (k : ℕ) → pass start gain move (s ∷ l) ≡ refused k → BeforeLast (λ s. gain s ≡ refused k) (s ∷ l)
   unfolding pass back
@@ -100,6 +127,15 @@ module _ {S G P : Type 0} (start : S → P) (gain : S → Answer G) (move : S �
         gain-refused (λ p g. move s g p) (gain s) (back start gain move t m) h (λ j e. number j (t ∷ m) (pass-refused t m j e))
     refused-pass l (later {s = s} {t = t} {l = m} b) =
         after-refused (λ p g. move s g p) (gain s) (back start gain move t m) k (refused-pass (t ∷ m) b)
+
+  -- what is refused from some slot on is refused
+  pub refused-from : (k : ℕ) (l : List S) {j : ℕ} → k < length l → pass start gain move (drop k l) ≡ refused j → pass start gain move l ≡ refused j
+  unfolding pass back
+  refused-from zero l h e = e
+  refused-from (suc k) [] h e = absurd (not-suc-le-zero h)
+  refused-from (suc k) (s ∷ []) h e = absurd (not-suc-le-zero (le-of-suc-le-suc h))
+  refused-from (suc k) (s ∷ t ∷ l) {j} h e =
+      after-refused (λ p g. move s g p) (gain s) (back start gain move t l) j (refused-from k (t ∷ l) (le-of-suc-le-suc h) e)
 
   -- for a loop that goes back: the step that is answered, and the one that is refused
   pub back-step : (s t : S) (l : List S) {r : Results P} {g : G} → back start gain move t l ≡ answered r → gain s ≡ answered g →

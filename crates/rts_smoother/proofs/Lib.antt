@@ -4,3 +4,8 @@ pub mod Demand3
 pub mod Sizes
 pub mod Places
 pub mod Records
+pub mod Steps
+pub mod Passes
+pub mod Outputs
+pub mod Readings
+pub mod Call

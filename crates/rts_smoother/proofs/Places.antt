@@ -5,11 +5,11 @@ use Prim.Native.Nat.{ℕ, zero, suc, _+_, _*_, _≤_, _<_}
 use native.Mathlib.Nat.{mul-le-mul-right, suc-mul}
 use native.Mathlib.Numerals.{add-one}
 use native.Mathlib.Omega.{arith}
-use lib.ListN.{length, set, take, drop, length-append, length-take, length-drop, take-append-drop}
-use lib.Seq.{append-snoc, set-split, take-at, drop-at, drop-drop, length-take-le, take-take, take-append-le}
-use lib.Ieee.{Float}
+use lib.ListN.{length-set, length, set, take, drop, length-append, length-take, length-drop, take-append-drop}
+use lib.Seq.{take-all, take-suc, take-suc-set, append-snoc, set-split, take-at, drop-at, drop-drop, length-take-le, take-take, take-append-le}
+use lib.Ieee.{Float, nan}
 use Rattle.matrix.specs.Table.{table}
-use Rattle.matrix.specs.Matrix.{Matrix, row}
+use Rattle.matrix.specs.Matrix.{Matrix, at, row}
 use Rattle.matrix.proofs.Tables.{table-getD}
 use Rattle.matrix.proofs.Matrices.{Shape}
 use Rattle.rts_smoother.specs.Buffer.{joined, placed}
@@ -122,3 +122,32 @@ pub putting-all : {k w : ℕ} {f : ℕ → List Float} {b : List Float} {n i : �
 putting-all {k} {w} {f} {b} {n} {i} p h =
     let same : i ≡ n = omega arith in
     p .is ∙ ap (λ (j : ℕ). placed k (joined (table j f)) b) same
+
+-- ---- a loop that copies
+
+-- The first i numbers of l, which is as long as b, are those of a: its invariant
+pub record Copying (a b : List Float) (i : ℕ) (l : List Float) : Type 0 where
+  pub within : i ≤ length b
+  pub long : length l ≡ length b
+  pub is : take i l ≡ take i a
+
+pub copying-none : (a b : List Float) → Copying a b 0 b
+copying-none a b = record { within = omega arith; long = refl; is = refl }
+
+pub copying-more : {a b l : List Float} {i : ℕ} → Copying a b i l → length b ≤ length a → i < length b → Copying a b (i + 1) (set l i (at a i))
+copying-more {a} {b} {l} {i} e h g =
+    record {
+      within = omega arith;
+      long = length-set l i (at a i) ∙ e .long;
+      is =
+          ap (λ (m : ℕ). take m (set l i (at a i))) (add-one i)
+          ∙ take-suc-set l i (at a i) (omega arith)
+          ∙ ap (λ (t : List Float). t ++ (at a i ∷ [])) (e .is)
+          ∙ sym (take-suc a i nan (omega arith))
+          ∙ ap (λ (m : ℕ). take m a) (sym (add-one i));
+    }
+
+pub copying-all : {a b l : List Float} {i : ℕ} → Copying a b i l → length b ≤ i → l ≡ take (length b) a
+copying-all {a} {b} {l} {i} e h =
+    let same : i ≡ length b = omega arith in
+    sym (take-all i l (omega arith)) ∙ e .is ∙ ap (λ (m : ℕ). take m a) same

@@ -10,11 +10,12 @@ use lib.Ieee.{Float}
 use borrow.Author.Tests.{ltb-true, lt-leb}
 use Rattle.matrix.specs.declared.Status.the-variants.{Done}
 use Rattle.matrix.specs.Answer.{answered, if-sized, refused-if}
-use Rattle.matrix.specs.Matrix.{Matrix}
+use Rattle.matrix.specs.Matrix.{Matrix, at}
 use Rattle.matrix.specs.Array.{cut, used, padRow, pad}
 use Rattle.matrix.specs.Kernel.{rowsOfFlat, flatOfRows}
 use Rattle.matrix.specs.Result.{sized, sizeOrFour}
-use Rattle.matrix.proofs.Matrices.{Shape}
+use Rattle.matrix.proofs.Tables.{length-table}
+use Rattle.matrix.proofs.Matrices.{Shape, shape-mat}
 use Rattle.matrix.proofs.Arrays.{length-cut, shape-used, kept-sized}
 use Rattle.matrix.proofs.Results.{Size, as-answered}
 use Rattle.matrix.proofs.Kernels.{used-rowsOfFlat}
@@ -22,8 +23,9 @@ use Rattle.kalman.specs.Kalman.{Estimate}
 use Rattle.rts_smoother.specs.declared.FilteredState.{FilteredState}
 use Rattle.rts_smoother.specs.declared.StateResult.{StateResult}
 use Rattle.rts_smoother.specs.declared.RtsSmoother.{RtsSmoother}
-use Rattle.rts_smoother.specs.Buffer.{pairLength, stride, pairNumbers, slotNumbers, placed, buffered}
-use Rattle.rts_smoother.specs.Record.{estimate, slotOf, stateResult, stateFrom, recordOf, slotFrom, storedIn, storable, storeOf, getStateRefusal}
+use Rattle.rts_smoother.specs.Smoother.{Slot}
+use Rattle.rts_smoother.specs.Buffer.{pairAt, slotFrom, pairLength, stride, pairNumbers, slotNumbers, placed, buffered}
+use Rattle.rts_smoother.specs.Record.{estimate, slotOf, stateResult, stateFrom, recordOf, slotOfRows, storedIn, storable, storeOf, getStateRefusal}
 use Rattle.rts_smoother.proofs.Sizes.{buffered-of, storable-of, ends-within, buffer-small}
 use Rattle.rts_smoother.proofs.Places.{length-rows, then-placed}
 
@@ -38,6 +40,19 @@ length-pair {n} {e} p = length-append (e .state) _ ∙ ap₂ (λ (i j : ℕ). i 
 
 pub paired-used : (n : ℕ) (x : List Float) (p : List (List Float)) → Paired n (estimate (cut n x) (used n n p))
 paired-used n x p = record { state = length-cut n x; covariance = shape-used n n p }
+
+-- a slot of a buffer
+pub record Slotted (n : ℕ) (s : Slot) : Type 0 where
+  pub filtered : Paired n (s .filtered)
+  pub predicted : Paired n (s .predicted)
+
+pub paired-at : (n : ℕ) (b : List Float) (k : ℕ) → Paired n (pairAt n b k)
+unfolding pairAt
+paired-at n b k = record { state = length-table n (λ i. at b (k + i)); covariance = shape-mat n n (λ i j. at b (k + n + i * n + j)) }
+
+pub slotted : (n : ℕ) (b : List Float) (k : ℕ) → Slotted n (slotFrom n b k)
+unfolding slotFrom
+slotted n b k = record { filtered = paired-at n b k; predicted = paired-at n b (k + pairLength n) }
 
 -- the two pairs of a record, one after the other: p and q are its covariances as rows
 pub slot-placed : (s : FilteredState) (b : List Float) {k j : ℕ} {b₁ b₂ : List Float} {p q : List (List Float)} → s .n ≤ 4 → k ≤ length b → j ≡ k + pairLength (s .n)
@@ -57,7 +72,7 @@ pub state-done : (n : ℕ) (x y : List Float) (p q : List (List Float)) {fx fp f
     → fx ≡ padRow (cut (sizeOrFour n) x) → fp ≡ flatOfRows (pad (used n n p)) → fy ≡ padRow (cut (sizeOrFour n) y) → fq ≡ flatOfRows (pad (used n n q))
     → _≡_ {A = StateResult} (record { status = Done; state = record { n = n; x = fx; p = fp; «x_pred» = fy; «p_pred» = fq } }) (stateFrom n x p y q)
 state-done n x y p q N t ex ep ey eq =
-    as-answered stateResult (recordOf n (slotFrom n x p y q)) t
+    as-answered stateResult (recordOf n (slotOfRows n x p y q)) t
     (λ i. record { status = Done; state = record { n = n; x = (ex ∙ kept-sized n x N) i; p = ep i; «x_pred» = (ey ∙ kept-sized n y N) i; «p_pred» = eq i } })
 
 -- ---- the ways out of a store: t is the test of the sizes, and u says that there is no room

@@ -1,5 +1,5 @@
 -- Laws of a smoother's sizes: what a test that was passed says, and that slots and buffers are small. Assumes nothing.
-use mathlib.Core.Path.{_≡_}
+use mathlib.Core.Path.{_≡_, subst⁻¹}
 use mathlib.Core.Bool.{true, _&&_}
 use Prim.Native.Nat.{ℕ, _+_, _*_, _≤_, _<_}
 use native.Mathlib.Nat.{mul-le-mul-left, mul-le-mul-right}
@@ -8,9 +8,9 @@ use lib.Dec.{leb}
 use borrow.Author.Tests.{leb-true, eqb-true}
 use Rattle.scalar.proofs.Choice.{and-left, and-right}
 use Rattle.matrix.specs.Result.{sized}
-use Rattle.matrix.proofs.Results.{Size, size-of}
-use Rattle.rts_smoother.specs.Buffer.{stride, roomy, counted, buffered}
-use Rattle.rts_smoother.specs.Record.{storable}
+use Rattle.matrix.proofs.Results.{Size, size-of, sized-true}
+use Rattle.rts_smoother.specs.Buffer.{pairLength, stride, roomy, counted, buffered}
+use Rattle.rts_smoother.specs.Record.{storable, smoothable}
 
 -- ---- what a test that was passed says
 pub record Counted (n T c : ℕ) : Type 0 where
@@ -44,6 +44,14 @@ pub storable-of : (m n T c size : ℕ) → storable m n T c size ≡ true → St
 unfolding storable
 storable-of m n T c size e = record { buffer = buffered-of m n T c (and-left _ _ e); same = eqb-true n size (and-right (buffered m n T c) _ e) }
 
+pub record Smoothable (m o n T c : ℕ) : Type 0 where
+  pub buffer : Buffered m n T c
+  pub output : o ≡ T * pairLength n
+
+pub smoothable-of : (m o n T c : ℕ) → smoothable m o n T c ≡ true → Smoothable m o n T c
+unfolding smoothable
+smoothable-of m o n T c e = record { buffer = buffered-of m n T c (and-left _ _ e); output = eqb-true o (T * pairLength n) (and-right (buffered m n T c) _ e) }
+
 -- ---- slots and buffers are small
 pub square-small : {n : ℕ} → n ≤ 4 → n * n ≤ 16
 square-small {n} h = omega (arith, mul-le-mul-left n h)
@@ -55,5 +63,18 @@ stride-small h = omega (arith, square-small h)
 pub ends-within : {k T : ℕ} (s : ℕ) → k < T → k * s + s ≤ T * s
 ends-within {k} {T} s h = omega (arith, mul-le-mul-right s h)
 
+-- the same for a stride r as the code has it, in a buffer of m numbers
+pub slot-room : {k c r m : ℕ} (s : ℕ) → k < c → c * s ≤ m → r ≡ s → k * r + s ≤ m
+slot-room {k} {c} {r} {m} s h f e = subst⁻¹ (λ (t : ℕ). k * t + s ≤ m) e (omega (arith, ends-within {k = k} {T = c} s h))
+
 pub buffer-small : {n T : ℕ} → n ≤ 4 → T ≤ 64 → T * stride n ≤ 2560
 buffer-small {n} {T} h k = omega (arith, mul-le-mul-right (stride n) k, stride-small h)
+
+pub output-small : {n T : ℕ} → n ≤ 4 → T ≤ 64 → T * pairLength n ≤ 1280
+output-small {n} {T} h k = omega (arith, mul-le-mul-right (pairLength n) k, square-small h)
+
+-- what the pass asks for, where the sizes are right and a slot is stored
+pub passable : {m o n T c : ℕ} → Smoothable m o n T c → 1 ≤ c → (sized n ≡ true) × (1 ≤ c) × (c ≤ 64) × (c * stride n ≤ m) × (c * pairLength n ≤ 1280)
+passable {m} {o} {n} {T} {c} s h =
+    let f = s .buffer .sizes in
+    (sized-true (f .size), h, omega (arith, f), omega (arith, s .buffer .whole, mul-le-mul-right (stride n) (f .within)), output-small (f .size .most) (omega (arith, f)))

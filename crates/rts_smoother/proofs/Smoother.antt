@@ -11,7 +11,7 @@ use Rattle.inverse.specs.Inverse.{inv}
 use Rattle.inverse.proofs.Laws.{inv-refused}
 use Rattle.kalman.specs.Kalman.{Estimate, gain}
 use Rattle.rts_smoother.specs.Backward.{back, pass, BeforeLast, this, later, Same}
-use Rattle.rts_smoother.specs.Smoother.{Slot, slotGain, move}
+use Rattle.rts_smoother.specs.Smoother.{Slot, slotGain, movedCovariance, move}
 use Rattle.rts_smoother.specs.Demand3.{Rejected, Covariances, covariances, outcome}
 use Rattle.rts_smoother.proofs.Backward.{pass-tails, pass-count, pass-refused, refused-pass, same-pass, same-reaches, pass-parts, reaches, from-end}
 
@@ -101,7 +101,7 @@ module _ {S : Type 0} (slotOf : S → Slot) (n : ℕ) (F : S → Matrix) where
     alone l = pass (λ k. kept k .filtered) (λ k. gainBy (kept k) (E k)) (λ k. moveBy (kept k)) l
 
     by-itself : (l : List S) → outcome (smoothedBy l) ≡ alone (map κ l)
-    unfolding slotGain move gainBy moveBy
+    unfolding slotGain movedCovariance move gainBy moveBy
     by-itself l =
         pass-parts start gainOf step κ (λ e. e .covariance) (λ k. kept k .filtered) (λ k. gainBy (kept k) (E k)) (λ k. moveBy (kept k))
         (λ s. ap (λ (c : Covariances). c .filtered) (keeps s))

@@ -25,9 +25,13 @@ stride n = 2 * n + 2 * (n * n)
 unfoldable pub pairAt : ℕ → List Float → ℕ → Estimate
 pairAt n b k = record { state = table n (λ i. at b (k + i)); covariance = mat n n (λ i j. at b (k + n + i * n + j)) }
 
--- slot k: filtered pair, then predicted pair
-unfoldable pub slotAt : ℕ → List Float → ℕ → Slot
-slotAt n b k = record { filtered = pairAt n b (k * stride n); predicted = pairAt n b (k * stride n + pairLength n) }
+-- the slot from number k on: filtered pair, then predicted pair
+unfoldable pub slotFrom : ℕ → List Float → ℕ → Slot
+slotFrom n b k = record { filtered = pairAt n b k; predicted = pairAt n b (k + pairLength n) }
+
+-- slot k
+abbrev pub slotAt : ℕ → List Float → ℕ → Slot
+slotAt n b k = slotFrom n b (k * stride n)
 
 -- the first c slots, as a duty; what stands past them plays no part
 unfoldable pub dutyOf : ℕ → Matrix → List Float → ℕ → Duty

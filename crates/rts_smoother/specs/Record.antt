@@ -1,13 +1,15 @@
 -- The records of the code: which slot a filtered state holds, and what each call answers and leaves. Definitions only.
 use Prim.Native.Nat.{ℕ, _+_, _*_}
-use mathlib.Core.List.{List, []}
+use mathlib.Core.Path.{_≡_}
+use mathlib.Core.List.{List, [], map}
 use mathlib.Core.Bool.{Bool, _&&_, cond}
 use lib.Dec.{leb, ltb, eqb}
 use lib.ListN.{length, take, drop}
 use lib.Ieee.{Float}
+use Rattle.matrix.specs.declared.Status.{Status}
 use Rattle.matrix.specs.declared.Status.the-variants.{Done, Refused}
 use Rattle.matrix.specs.declared.TestResult.{TestResult}
-use Rattle.matrix.specs.Answer.{Answer, refused, answered, refused-if, where-sized, if-sized}
+use Rattle.matrix.specs.Answer.{Answer, refused, answered, mapped, refused-if, where-sized, if-sized}
 use Rattle.matrix.specs.Matrix.{Vector, Matrix}
 use Rattle.matrix.specs.Array.{cut, used, usedFlat, padRow, pad}
 use Rattle.matrix.specs.Kernel.{flatOfRows}
@@ -19,8 +21,8 @@ use Rattle.rts_smoother.specs.declared.RtsSmoother.{RtsSmoother}
 use Rattle.rts_smoother.specs.declared.Stored.{Stored}
 use Rattle.rts_smoother.specs.declared.CountResult.{CountResult}
 use Rattle.rts_smoother.specs.declared.CountResult.the-variants as Count
-use Rattle.rts_smoother.specs.Smoother.{Slot}
-use Rattle.rts_smoother.specs.Buffer.{stride, slotNumbers, placed, counted, buffered}
+use Rattle.rts_smoother.specs.Smoother.{Slot, smooth}
+use Rattle.rts_smoother.specs.Buffer.{pairLength, stride, dutyOf, joined, pairNumbers, slotNumbers, placed, outputOf, counted, buffered}
 
 -- ---- slots
 abbrev pub estimate : Vector → Matrix → Estimate
@@ -33,8 +35,8 @@ slotOf s = record {
   predicted = estimate (cut (s .n) (s .«x_pred»)) (usedFlat (s .n) (s .n) (s .«p_pred»));
 }
 
-abbrev pub slotFrom : ℕ → List Float → List (List Float) → List Float → List (List Float) → Slot
-slotFrom n x p y q = record { filtered = estimate (cut n x) (used n n p); predicted = estimate (cut n y) (used n n q) }
+abbrev pub slotOfRows : ℕ → List Float → List (List Float) → List Float → List (List Float) → Slot
+slotOfRows n x p y q = record { filtered = estimate (cut n x) (used n n p); predicted = estimate (cut n y) (used n n q) }
 
 -- the record of a slot; a matrix stands flat, +0 outside its sizes
 abbrev pub recordOf : ℕ → Slot → FilteredState
@@ -52,7 +54,7 @@ stateResult (refused k) = record { status = Refused k; state = recordOf 0 (recor
 stateResult (answered s) = record { status = Done; state = s }
 
 abbrev pub stateFrom : ℕ → List Float → List (List Float) → List Float → List (List Float) → StateResult
-stateFrom n x p y q = stateResult (where-sized (sized n) (recordOf n (slotFrom n x p y q)))
+stateFrom n x p y q = stateResult (where-sized (sized n) (recordOf n (slotOfRows n x p y q)))
 
 -- ---- the smoother's record; a refusal leaves it unchanged
 abbrev pub smoother : ℕ → ℕ → ℕ → RtsSmoother
@@ -114,3 +116,34 @@ getStateRefusal m b k = cond (buffered (length b) (m .n) (m .room) (m .count)) (
 -- slot k's numbers as they lie in the buffer; none where it cannot be handed out
 abbrev pub getState : RtsSmoother → List Float → ℕ → List Float
 getState m b k = cond (eqb (getStateRefusal m b k) 0) (take (stride (m .n)) (drop (k * stride (m .n)) b)) []
+
+-- ---- smoothing
+
+-- and an output of o numbers that is just T pairs long
+unfoldable pub smoothable : ℕ → ℕ → ℕ → ℕ → ℕ → Bool
+smoothable m o n T c = buffered m n T c && eqb o (T * pairLength n)
+
+-- what an output holds after the first c slots of b are smoothed with the transition in f: refused with 1 for the sizes, and else as smoothing is
+abbrev pub smoothInto : ℕ → ℕ → ℕ → List Float → List (List Float) → List Float → Answer (List Float)
+smoothInto n T c b f o = if-sized (smoothable (length b) (length o) n T c) (mapped (outputOf n T) (smooth (dutyOf n (used n n f) b c)))
+
+-- a refusal leaves the output unchanged
+abbrev pub writtenIn : List Float → Answer (List Float) → Left Status
+writtenIn o (refused k) = left (Refused k) o
+writtenIn o (answered l) = left Done l
+
+abbrev pub smoothOf : ℕ → ℕ → ℕ → List Float → List (List Float) → List Float → Left Status
+smoothOf n T c b f o = writtenIn o (smoothInto n T c b f o)
+
+-- the smoother's stored slots, with a transition of size k; refused with 1 also where that is not the smoother's
+abbrev pub smoothWith : RtsSmoother → List Float → List (List Float) → ℕ → List Float → Left Status
+smoothWith m b f k o = writtenIn o (if-sized (eqb (m .n) k) (smoothInto (m .n) (m .room) (m .count) b f o))
+
+-- the pass itself, where the sizes are right: its status, and where it is answered the pairs in front of what a buffer held
+abbrev pub statusOf : {A : Type 0} → Answer A → Status
+statusOf (refused k) = Refused k
+statusOf (answered a) = Done
+
+pub record Passed (a : Answer (List Estimate)) (before after : List Float) (s : Status) : Type 0 where
+  pub told : s ≡ statusOf a
+  pub pairs : (r : List Estimate) → a ≡ answered r → after ≡ placed 0 (joined (map pairNumbers r)) before

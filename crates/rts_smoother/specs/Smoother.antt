@@ -2,7 +2,7 @@
 use Prim.Native.Nat.{ℕ}
 use mathlib.Core.List.{List}
 use Rattle.matrix.specs.Answer.{Answer, mapped}
-use Rattle.matrix.specs.Matrix.{Matrix, mul, matvec, add, sub, transpose, vecAdd, vecSub}
+use Rattle.matrix.specs.Matrix.{Vector, Matrix, mul, matvec, add, sub, transpose, vecAdd, vecSub}
 use Rattle.inverse.specs.Inverse.{inv}
 use Rattle.kalman.specs.Kalman.{Estimate, gain}
 use Rattle.rts_smoother.specs.Backward.{pass}
@@ -22,12 +22,17 @@ pub record Duty : Type 0 where
 unfoldable pub slotGain : ℕ → Matrix → Slot → Answer Matrix
 slotGain n F s = mapped (gain n n (s .filtered .covariance) F) (inv n (s .predicted .covariance))
 
--- x + G d, and P + (G D) Gᵀ: d and D are the smoothed pair of the next slot less the predicted pair
+-- x + G d, with d the next slot's smoothed state less the predicted state
+unfoldable pub movedState : ℕ → Slot → Matrix → Vector → Vector
+movedState n s G next = vecAdd n (s .filtered .state) (matvec n n G (vecSub n next (s .predicted .state)))
+
+-- P + (G D) Gᵀ, with D the next slot's smoothed covariance less the predicted covariance
+unfoldable pub movedCovariance : ℕ → Slot → Matrix → Matrix → Matrix
+movedCovariance n s G next = add n n (s .filtered .covariance) (mul n n n (mul n n n G (sub n n next (s .predicted .covariance))) (transpose n n G))
+
+-- slot s, with its gain G, before a slot whose smoothed pair is next
 unfoldable pub move : ℕ → Slot → Matrix → Estimate → Estimate
-move n s G next = record {
-  state = vecAdd n (s .filtered .state) (matvec n n G (vecSub n (next .state) (s .predicted .state)));
-  covariance = add n n (s .filtered .covariance) (mul n n n (mul n n n G (sub n n (next .covariance) (s .predicted .covariance))) (transpose n n G));
-}
+move n s G next = record { state = movedState n s G (next .state); covariance = movedCovariance n s G (next .covariance) }
 
 -- the slots l with state size n and transition F, from the last back
 unfoldable pub smoothed : ℕ → Matrix → List Slot → Answer (List Estimate)

@@ -2,10 +2,18 @@
 // the caller lends: slot k is 2n + 2n² numbers, state, covariance by rows, predicted state, predicted covariance.
 ghost use mathlib.Core.Path.{_≡_};
 ghost use Prim.Native.Nat.{_+_, _*_, _≤_};
-ghost use lib.ListN.{length};
-ghost use Rattle.matrix.specs.Array.{cut, used};
-ghost use Rattle.rts_smoother.specs.Buffer.{stride, joined, pairNumbers, slotNumbers, placed, roomy, counted, buffered};
-ghost use Rattle.rts_smoother.specs.Record.{estimate, slotOf, storable, left, stateFrom, newOf, resetOf, lenOf, isEmptyOf, storeOf, getStateRefusal, getState};
+ghost use lib.ListN.{length, take};
+ghost use Rattle.matrix.specs.Array.{cut, used, padRow, pad};
+ghost use Rattle.rts_smoother.specs.Buffer.{stride, joined, pairNumbers, slotNumbers, placed, roomy, counted, buffered, pairLength, slotFrom, slotAt};
+ghost use Rattle.rts_smoother.specs.Record.{estimate, slotOf, storable, left, stateFrom, newOf, resetOf, lenOf, isEmptyOf, storeOf, getStateRefusal, getState, smoothable, smoothOf, smoothWith, Passed};
+ghost use mathlib.Core.Bool.{true};
+ghost use Rattle.matrix.specs.Table.{table};
+ghost use Rattle.matrix.specs.Matrix.{at, mat};
+ghost use Rattle.matrix.specs.Result.{asMatrix, sized};
+ghost use Rattle.inverse.specs.Inverse.{inv};
+ghost use Rattle.kalman.specs.Kalman.{gain};
+ghost use Rattle.rts_smoother.specs.Smoother.{movedState, movedCovariance, smoothed};
+use matrix::MatrixResult;
 use matrix::Status;
 use matrix::TestResult;
 use matrix::kernel;
@@ -286,5 +294,210 @@ impl RtsSmoother {
         } else {
             &slots[..0]
         }
+    }
+
+    // The stored slots smoothed into output with a transition of k rows and columns, as the function smooth
+    // does it. Refused with 1 also where k is not n.
+    pub fn smooth(
+        self,
+        slots: &[f64],
+        transition: [[f64; 4]; 4],
+        k: usize,
+        output: &mut [f64],
+    ) -> Status
+        ensures { λ s. ⌜ left s (now (output .exit)) ≡ smoothWith self (now (slots .entry)) transition k (now (output .entry)) ⌝ }
+    {
+        if self.n == k {
+            smooth(slots, self.n, self.room, self.count, transition, output)
+        } else {
+            Status::Refused(1)
+        }
+    }
+}
+
+// ---- numbers out of a buffer, from number k on
+
+fn vector_at(b: &[f64], k: usize, n: usize) -> [f64; 4]
+    requires { ⌜ (n ≤ 4) × (k + n ≤ length (now b)) ⌝ }
+    ensures { λ v. ⌜ v ≡ padRow (table n (λ i. at (now (b .entry)) (k + i))) ⌝ }
+{
+    let mut out = [0.0; 4];
+    for i in 0..n {
+        out[i] = b[k + i];
+    }
+    out
+}
+
+// By rows.
+fn matrix_at(b: &[f64], k: usize, n: usize) -> [[f64; 4]; 4]
+    requires { ⌜ (n ≤ 4) × (k + n * n ≤ length (now b)) ⌝ }
+    ensures { λ m. ⌜ m ≡ pad (mat n n (λ i j. at (now (b .entry)) (k + i * n + j))) ⌝ }
+{
+    let mut out = [[0.0; 4]; 4];
+    for i in 0..n {
+        out[i] = vector_at(b, k + i * n, n);
+    }
+    out
+}
+
+// ---- one slot, given by the number k at which it begins; operations and order are those of rts_smoother.rs
+
+// Its inverted predicted covariance. Refused with 3: inversion rejects it.
+fn inverted(slots: &[f64], k: usize, n: usize) -> MatrixResult
+    requires { ⌜ (sized n ≡ true) × (k + stride n ≤ length (now slots)) ⌝ }
+    ensures { λ w. ⌜ w ≡ asMatrix (inv n (slotFrom n (now (slots .entry)) k .predicted .covariance)) ⌝ }
+{
+    let p = matrix_at(slots, k + (n + n * n) + n, n);
+    inverse::inverse_of(&p, n)
+}
+
+// Its covariance × transposed f × w.
+fn slot_gain<'a>(
+    slots: &'a [f64],
+    k: usize,
+    n: usize,
+    f: &'a [[f64; 4]; 4],
+    w: &'a [[f64; 4]; 4],
+) -> [[f64; 4]; 4]
+    requires { ⌜ (sized n ≡ true) × (k + stride n ≤ length (now slots)) ⌝ }
+    ensures { λ g. ⌜ g ≡ pad (gain n n (slotFrom n (now (slots .entry)) k .filtered .covariance) (used n n (now (f .entry))) (used n n (now (w .entry)))) ⌝ }
+{
+    let p = matrix_at(slots, k + n, n);
+    let pft = kernel::product_transposed(&p, f, n, n, n);
+    kernel::product(&pft, w, n, n, n)
+}
+
+// x + G d, with d the next slot's smoothed state less the predicted state.
+fn moved_state<'a>(
+    slots: &'a [f64],
+    k: usize,
+    n: usize,
+    g: &'a [[f64; 4]; 4],
+    next: [f64; 4],
+) -> [f64; 4]
+    requires { ⌜ (sized n ≡ true) × (k + stride n ≤ length (now slots)) ⌝ }
+    ensures { λ v. ⌜ v ≡ padRow (movedState n (slotFrom n (now (slots .entry)) k) (used n n (now (g .entry))) (cut n next)) ⌝ }
+{
+    let x = vector_at(slots, k, n);
+    let y = vector_at(slots, k + (n + n * n), n);
+    let d = kernel::vector_difference(next, y, n);
+    let gd = kernel::product_vector(g, &d, n, n);
+    kernel::vector_sum(x, gd, n)
+}
+
+// P + (G D) Gᵀ, with D the next slot's smoothed covariance less the predicted covariance.
+fn moved_covariance<'a>(
+    slots: &'a [f64],
+    k: usize,
+    n: usize,
+    g: &'a [[f64; 4]; 4],
+    next: &'a [[f64; 4]; 4],
+) -> [[f64; 4]; 4]
+    requires { ⌜ (sized n ≡ true) × (k + stride n ≤ length (now slots)) ⌝ }
+    ensures { λ v. ⌜ v ≡ pad (movedCovariance n (slotFrom n (now (slots .entry)) k) (used n n (now (g .entry))) (used n n (now (next .entry)))) ⌝ }
+{
+    let p = matrix_at(slots, k + n, n);
+    let q = matrix_at(slots, k + (n + n * n) + n, n);
+    let d = kernel::difference(next, &q, n, n);
+    let gd = kernel::product(g, &d, n, n, n);
+    let c = kernel::product_transposed(&gd, g, n, n, n);
+    kernel::sum(&p, &c, n, n)
+}
+
+// ---- all slots
+
+// The smoothed pairs of the first count slots into out, pair k from number k (n + n²) on. Refused with 3:
+// inversion rejects the predicted covariance of a slot before the last.
+fn back<'a>(
+    slots: &'a [f64],
+    n: usize,
+    count: usize,
+    f: &'a [[f64; 4]; 4],
+    out: &mut [f64],
+) -> Status
+    requires { ⌜ (sized n ≡ true) × (1 ≤ count) × (count ≤ 64) × (count * stride n ≤ length (now slots)) × (count * pairLength n ≤ length (now out)) ⌝ }
+    ensures { λ s. ⌜ Passed (smoothed n (used n n (now (f .entry))) (table count (λ k. slotAt n (now (slots .entry)) k))) (now (out .entry)) (now (out .exit)) s ⌝ }
+{
+    let stride = stride_of(n);
+    let pair = n + n * n;
+    let mut k = count - 1;
+    let mut x = vector_at(slots, k * stride, n);
+    let mut p = matrix_at(slots, k * stride + n, n);
+    while 0 < k {
+        put_pair(out, k * pair, x, &p, n);
+        k -= 1;
+        let a = k * stride;
+        let w = inverted(slots, a, n);
+        let status = w.status;
+        match status {
+            Status::Done => {
+                let rows = matrix::rows_of(w);
+                let g = slot_gain(slots, a, n, f, &rows);
+                let nx = moved_state(slots, a, n, &g, x);
+                let np = moved_covariance(slots, a, n, &g, &p);
+                x = nx;
+                p = np;
+            }
+            Status::Refused(number) => {
+                return Status::Refused(number);
+            }
+        }
+    }
+    put_pair(out, 0, x, &p, n);
+    Status::Done
+}
+
+// ---- the call
+
+// The sizes, and that an output of numbers is just room pairs long.
+fn is_smoothable(len: usize, numbers: usize, n: usize, room: usize, count: usize) -> bool
+    ensures { λ t. ⌜ t ≡ smoothable len numbers n room count ⌝ }
+{
+    if is_buffered(len, n, room, count) {
+        numbers == room * (n + n * n)
+    } else {
+        false
+    }
+}
+
+fn copy_front(to: &mut [f64], from: &[f64])
+    requires { ⌜ length (now to) ≤ length (now from) ⌝ }
+    ensures { λ r. ⌜ now (to .exit) ≡ take (length (now (to .entry))) (now (from .entry)) ⌝ }
+{
+    let n = to.len();
+    for i in 0..n {
+        to[i] = from[i];
+    }
+}
+
+// The smoothed pairs of the first count slots into output, state and then covariance by rows, and +0 past the
+// count. The pairs are made in a buffer of the largest size: a refusal leaves the output unchanged. Refused with
+// 1: a size, a count above room, a buffer that is not just room slots or pairs long; with 2: no slot; with 3:
+// inversion rejects the predicted covariance of a slot before the last.
+pub fn smooth(
+    slots: &[f64],
+    n: usize,
+    room: usize,
+    count: usize,
+    transition: [[f64; 4]; 4],
+    output: &mut [f64],
+) -> Status
+    ensures { λ s. ⌜ left s (now (output .exit)) ≡ smoothOf n room count (now (slots .entry)) transition (now (output .entry)) ⌝ }
+{
+    if is_smoothable(slots.len(), output.len(), n, room, count) {
+        if count == 0 {
+            return Status::Refused(2);
+        }
+        let mut pairs = [0.0; 1280];
+        let status = back(slots, n, count, &transition, &mut pairs[..]);
+        match status {
+            Status::Done => {
+                copy_front(output, &pairs[..]);
+                Status::Done
+            }
+            Status::Refused(number) => Status::Refused(number),
+        }
+    } else {
+        Status::Refused(1)
     }
 }

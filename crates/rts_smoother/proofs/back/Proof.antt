@@ -1,0 +1,131 @@
+-- `back` meets its contract: the loop's invariant is `Going`, that the pass has come back to slot k.
+use mathlib.Core.Path.{_≡_, ap, _∙_}
+use mathlib.Core.Bool.{true}
+use Prim.Native.Nat.{ℕ, _+_, _-_, _*_, _≤_}
+use native.Mathlib.Omega.{arith}
+use lib.ListN.{length}
+use borrow.Author.Needs.{needs}
+use Rattle.matrix.specs.Array.{used}
+use Rattle.matrix.specs.Result.{sized}
+use Rattle.matrix.proofs.Results.{size-of}
+use Rattle.rts_smoother.specs.Buffer.{stride, slotFrom}
+use Rattle.rts_smoother.proofs.Sizes.{square-small, slot-room}
+use Rattle.rts_smoother.proofs.Passes.{Going, going-start, going-room, going-more, going-stop, going-done, gain-answered, gain-refused}
+use Rattle.rts_smoother.proofs.back.Statement.{statement}
+use Rattle.rts_smoother.proofs.back.Tie as tie
+
+abbrev Inv-loop : tie.InvT-loop
+Inv-loop slots n count f out₀ stride pair k₀ x₀ p₀ out k x p = Going n (used n n f) slots count out₀ k x p out
+
+abbrev μ-loop : tie.MeasureT-loop
+μ-loop slots n count f out₀ stride pair k₀ x₀ p₀ out k x p = k
+
+stride-of-requires : tie.Need-stride-of-requires Inv-loop μ-loop
+stride-of-requires c κs = size-of _ (c .before .before .pre .0) .most
+
+-- the last slot lies within the buffer
+last-room : (c : tie.After-stride-of Inv-loop μ-loop)
+    → let s = c .before .before .before in (s .args .count - 1) * c .stride-of .result + stride (s .args .n) ≤ length (s .args .slots .now)
+last-room c = let s = c .before .before .before in slot-room (stride (s .args .n)) (omega arith) (s .pre .3) (c .stride-of .ensures)
+
+vector-at-requires : tie.Need-vector-at-requires Inv-loop μ-loop
+vector-at-requires c κs = (size-of _ (c .before .before .before .pre .0) .most, omega (arith, last-room c))
+
+matrix-at-requires : tie.Need-matrix-at-requires Inv-loop μ-loop
+matrix-at-requires c κs = (size-of _ (c .before .before .before .before .pre .0) .most, omega (arith, last-room (c .before)))
+
+loop-holds : tie.Need-loop-holds Inv-loop μ-loop
+loop-holds c =
+    let s = c .before .before .before .before .before in
+    going-start _ _ _ _ (c .before .before .stride-of .ensures) (omega arith) (s .pre .4) (c .before .vector-at .ensures) (c .matrix-at .ensures)
+
+put-pair-requires : tie.Need-put-pair-requires Inv-loop μ-loop
+put-pair-requires c κs = (size-of _ (c .before .before .before .before .before .before .before .before .before .pre .0) .most, going-room _ _ _ _ (c .before .before .before .loop .inv))
+
+-- the slot before slot k lies within the buffer
+loop-room : (c : tie.In-loop Inv-loop μ-loop)
+    → let s = c .before .before .before .before .before .before .before in
+    (sized (s .args .n) ≡ true) × ((c .before .loop .k - 1) * c .before .before .before .before .stride-of .result + stride (s .args .n) ≤ length (s .args .slots .now))
+loop-room c =
+    let s = c .before .before .before .before .before .before .before in
+    (s .pre .0, slot-room (stride (s .args .n)) (omega (arith, c .before .loop .inv .below)) (s .pre .3) (c .before .before .before .before .stride-of .ensures))
+
+inverted-requires : tie.Need-inverted-requires Inv-loop μ-loop
+inverted-requires c κs = loop-room (c .before .before .before .before .before)
+
+slot-gain-requires : tie.Need-slot-gain-requires Inv-loop μ-loop
+slot-gain-requires c κs = loop-room (c .before .before .before .before .before .before .before .before .before .before)
+
+moved-state-requires : tie.Need-moved-state-requires Inv-loop μ-loop
+moved-state-requires c κs = loop-room (c .before .before .before .before .before .before .before .before .before .before .before .before)
+
+moved-covariance-requires : tie.Need-moved-covariance-requires Inv-loop μ-loop
+moved-covariance-requires c κs = loop-room (c .before .before .before .before .before .before .before .before .before .before .before .before .before .before .before)
+
+loop-again : tie.Need-loop-again Inv-loop μ-loop
+loop-again c =
+    let state = c .before .before .before in
+    let gain = state .before .before in
+    let told = gain .before .before .before in
+    let inverse = told .before .before in
+    let pair = inverse .before .before .before in
+    let t = pair .before .before .before in
+    let st = t .before .before .before .before in
+    let a = st .before .before .before .args in
+    let j = t .before .loop .k - 1 in
+    going-more _ _ _ _ (t .before .loop .inv) (omega (arith, t)) (ap (λ (m : ℕ). slotFrom (a .n) (a .slots .now) (j * m)) (st .stride-of .ensures))
+    (gain-answered _ _ _ (inverse .inverted .ensures) (told .enum-told .given .1) (gain .before .before .rows-of .ensures) (gain .slot-gain .ensures))
+    (state .moved-state .ensures) (c .moved-covariance .ensures) (pair .put-pair .ensures) (pair .put-pair .kept .0)
+
+returns : tie.Need-returns Inv-loop μ-loop
+returns c =
+    let inverse = c .before .before .before in
+    let t = inverse .before .before .before .before .before .before in
+    let st = t .before .before .before .before in
+    let a = st .before .before .before .args in
+    let j = t .before .loop .k - 1 in
+    going-stop _ _ _ _ (t .before .loop .inv) (omega (arith, t)) (ap (λ (m : ℕ). slotFrom (a .n) (a .slots .now) (j * m)) (st .stride-of .ensures))
+    (gain-refused _ _ _ (inverse .inverted .ensures) (c .before .status .given .1))
+
+put-pair-requires-2 : tie.Need-put-pair-requires-2 Inv-loop μ-loop
+put-pair-requires-2 c κs = (size-of _ (c .before .before .before .before .before .before .before .before .before .pre .0) .most, omega (arith, going-room _ _ _ _ (c .before .before .before .loop .inv)))
+
+returns-2 : tie.Need-returns-2 Inv-loop μ-loop
+returns-2 c =
+    let t = c .before .before .before .before .before in
+    going-done _ _ _ _ (t .before .loop .inv) (omega (arith, t)) (c .before .before .put-pair2 .ensures)
+
+pub back-spec : {M : Type 1} → statement M
+back-spec =
+    tie.close
+    (tie.spec
+    Inv-loop
+    μ-loop
+    stride-of-requires
+    (λ c. omega (arith, square-small (size-of _ (c .before .before .before .pre .0) .most)))
+    (λ c. omega (arith, square-small (size-of _ (c .before .before .before .pre .0) .most), size-of _ (c .before .before .before .pre .0)))
+    (λ c. omega arith)
+    (λ c. omega (arith, last-room c))
+    vector-at-requires
+    (λ c. omega (arith, last-room (c .before)))
+    (λ c. omega (arith, last-room (c .before)))
+    matrix-at-requires
+    loop-holds
+    (λ c. omega (arith, going-room _ _ _ _ (c .before .before .loop .inv)))
+    put-pair-requires
+    (λ c. omega (arith, c .before .before .before .before .before))
+    (λ c. omega (arith, loop-room (c .before .before .before .before .before)))
+    inverted-requires
+    (λ c. search needs)
+    (λ c κs. search needs)
+    slot-gain-requires
+    moved-state-requires
+    moved-covariance-requires
+    (λ c. omega (arith, c .before .before .before .before .before .before .before .before .before .before .before .before .before .before .before .before))
+    loop-again
+    (λ c. search needs)
+    (λ c. c .before .before .before .before .before .before .put-pair .kept .0 ∙ c .before .before .before .before .before .before .before .before .before .before .loop .inv .long)
+    returns
+    put-pair-requires-2
+    (λ c. c .before .before .put-pair2 .kept .0 ∙ c .before .before .before .before .before .before .loop .inv .long)
+    returns-2)
