@@ -2,7 +2,6 @@ pub mod Backward
 pub mod Smoother
 pub mod Demand3
 pub mod Sizes
-pub mod Places
 pub mod Records
 pub mod Steps
 pub mod Passes

@@ -19,8 +19,10 @@ use Rattle.kalman.specs.Kalman.{Estimate}
 use Rattle.kalman.proofs.Records.{done-not-refused}
 use Rattle.rts_smoother.specs.Backward.{pass}
 use Rattle.rts_smoother.specs.Smoother.{slotGain, move, smoothed, smooth}
-use Rattle.rts_smoother.specs.Buffer.{pairLength, stride, slotAt, dutyOf, joined, pairNumbers, placed, outputOf}
-use Rattle.rts_smoother.specs.Record.{left, statusOf, Passed, smoothable, writtenIn, smoothOf}
+use Rattle.buffer.specs.Buffer.{joined, placed}
+use Rattle.rts_smoother.specs.Buffer.{pairLength, stride, slotAt, dutyOf, pairNumbers, outputOf}
+use Rattle.buffer.specs.Buffer.{left}
+use Rattle.rts_smoother.specs.Record.{statusOf, Passed, smoothable, writtenIn, smoothOf}
 use Rattle.rts_smoother.proofs.Backward.{Each, each-table, pass-each, pass-count}
 use Rattle.rts_smoother.proofs.Sizes.{smoothable-of}
 use Rattle.rts_smoother.proofs.Records.{Paired, length-pair, slotted}

@@ -24,11 +24,12 @@ use Rattle.kalman.specs.Kalman.{Estimate, gain}
 use Rattle.kalman.proofs.Records.{was-answered, was-refused}
 use Rattle.rts_smoother.specs.Backward.{Results, listed, in-front, back, pass}
 use Rattle.rts_smoother.specs.Smoother.{Slot, slotGain, movedState, movedCovariance, move, smoothed}
-use Rattle.rts_smoother.specs.Buffer.{pairLength, stride, pairAt, slotFrom, slotAt, joined, pairNumbers, placed}
+use Rattle.buffer.specs.Buffer.{joined, placed}
+use Rattle.rts_smoother.specs.Buffer.{pairLength, stride, pairAt, slotFrom, slotAt, pairNumbers}
 use Rattle.rts_smoother.specs.Record.{estimate, statusOf, Passed}
 use Rattle.rts_smoother.proofs.Backward.{back-step, back-stop, refused-from}
-use Rattle.rts_smoother.proofs.Sizes.{ends-within}
-use Rattle.rts_smoother.proofs.Places.{placed-none, placed-before}
+use Rattle.buffer.proofs.Places.{ends-within}
+use Rattle.buffer.proofs.Places.{placed-none, placed-before}
 use Rattle.rts_smoother.proofs.Records.{Paired, length-pair, slotted}
 use Rattle.rts_smoother.proofs.Steps.{cut-of, used-of}
 

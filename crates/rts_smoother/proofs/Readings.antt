@@ -16,10 +16,11 @@ use Rattle.matrix.proofs.Matrices.{mat-ext}
 use Rattle.matrix.proofs.Kernels.{used-all}
 use Rattle.kalman.specs.Kalman.{Estimate}
 use Rattle.rts_smoother.specs.Smoother.{Slot}
-use Rattle.rts_smoother.specs.Buffer.{pairLength, stride, pairAt, slotFrom, slotAt, dutyOf, joined, pairNumbers, slotNumbers, placed}
+use Rattle.buffer.specs.Buffer.{joined, placed}
+use Rattle.rts_smoother.specs.Buffer.{pairLength, stride, pairAt, slotFrom, slotAt, dutyOf, pairNumbers, slotNumbers}
 use Rattle.rts_smoother.specs.Record.{estimate}
 use Rattle.rts_smoother.proofs.Backward.{Each}
-use Rattle.rts_smoother.proofs.Sizes.{ends-within}
+use Rattle.buffer.proofs.Places.{ends-within}
 use Rattle.rts_smoother.proofs.Records.{Paired, length-pair, Slotted}
 
 -- ---- a pair
@@ -54,7 +55,7 @@ module _ (n : ℕ) (a z : List Float) (e : Estimate) (h : Paired n e) where
   covariance-back =
       mat-ext n n (λ i j. at (a ++ (pairNumbers e ++ z)) (length a + n + i * n + j)) (λ i j. cell (e .covariance) i j)
       (λ i j p q.
-      let w = ends-within {k = i} {T = n} n p in
+      let w = ends-within {k = i} {n = n} n p in
       let here : length a + n + i * n + j ≡ length a + (n + (i * n + j)) = omega arith in
       let past : n + (i * n + j) ≡ length (e .state) + (i * n + j) = omega (arith, h .state) in
       ap (at (a ++ (pairNumbers e ++ z))) here
@@ -105,7 +106,7 @@ unfolding pairAt
 pair-ext n k b c h =
     ap₂ estimate
     (table-ext n (λ i. at b (k + i)) (λ i. at c (k + i)) (λ i l. h (k + i) (omega arith)))
-    (mat-ext n n (λ i j. at b (k + n + i * n + j)) (λ i j. at c (k + n + i * n + j)) (λ i j p q. h (k + n + i * n + j) (omega (arith, ends-within {k = i} {T = n} n p))))
+    (mat-ext n n (λ i j. at b (k + n + i * n + j)) (λ i j. at c (k + n + i * n + j)) (λ i j p q. h (k + n + i * n + j) (omega (arith, ends-within {k = i} {n = n} n p))))
 
 slot-ext : (n k : ℕ) (b c : List Float) → ((i : ℕ) → i < k + stride n → at b i ≡ at c i) → slotFrom n b k ≡ slotFrom n c k
 unfolding slotFrom
@@ -134,5 +135,5 @@ stored-slots n c F s b h l =
     ∙ table-last c (λ k. slotAt n b₁ k)
     ∙ ap₂ (λ (t : List Slot) (u : Slot). t ++ (u ∷ []))
     (table-ext c (λ k. slotAt n b₁ k) (λ k. slotAt n b k)
-    (λ k p. slot-ext n (k * stride n) b₁ b (λ i q. at-before (c * stride n) (slotNumbers s) b i l (omega (arith, ends-within {k = k} {T = c} (stride n) p)))))
+    (λ k p. slot-ext n (k * stride n) b₁ b (λ i q. at-before (c * stride n) (slotNumbers s) b i l (omega (arith, ends-within {k = k} {n = c} (stride n) p)))))
     (slot-back n (c * stride n) s b h l)

@@ -17,17 +17,19 @@ use Rattle.matrix.specs.Result.{sized, sizeOrFour}
 use Rattle.matrix.proofs.Tables.{length-table}
 use Rattle.matrix.proofs.Matrices.{Shape, shape-mat}
 use Rattle.matrix.proofs.Arrays.{length-cut, shape-used, kept-sized}
-use Rattle.matrix.proofs.Results.{Size, as-answered}
+use Rattle.matrix.proofs.Results.{Size, as-answered, sized-true}
 use Rattle.matrix.proofs.Kernels.{used-rowsOfFlat}
 use Rattle.kalman.specs.Kalman.{Estimate}
 use Rattle.rts_smoother.specs.declared.FilteredState.{FilteredState}
 use Rattle.rts_smoother.specs.declared.StateResult.{StateResult}
 use Rattle.rts_smoother.specs.declared.RtsSmoother.{RtsSmoother}
 use Rattle.rts_smoother.specs.Smoother.{Slot}
-use Rattle.rts_smoother.specs.Buffer.{pairAt, slotFrom, pairLength, stride, pairNumbers, slotNumbers, placed, buffered}
+use Rattle.buffer.specs.Buffer.{placed}
+use Rattle.rts_smoother.specs.Buffer.{pairAt, slotFrom, pairLength, stride, pairNumbers, slotNumbers, buffered}
 use Rattle.rts_smoother.specs.Record.{estimate, slotOf, stateResult, stateFrom, recordOf, slotOfRows, storedIn, storable, storeOf, getStateRefusal}
-use Rattle.rts_smoother.proofs.Sizes.{buffered-of, storable-of, ends-within, buffer-small}
-use Rattle.rts_smoother.proofs.Places.{length-rows, then-placed}
+use Rattle.rts_smoother.proofs.Sizes.{buffered-of, storable-of, buffer-small}
+use Rattle.buffer.proofs.Places.{ends-within}
+use Rattle.buffer.proofs.Places.{length-rows, then-placed}
 
 -- ---- a pair of size n
 pub record Paired (n : ℕ) (e : Estimate) : Type 0 where
@@ -92,7 +94,7 @@ store-done m b s p q e d =
 
 -- where the slot is stored it lies within the buffer: r is the stride as the code has it
 pub record Fitting (m : RtsSmoother) (b : List Float) (s : FilteredState) (r : ℕ) : Type 0 where
-  pub size : s .n ≤ 4
+  pub size : sized (s .n) ≡ true
   pub ends : m .count * r + stride (s .n) ≤ length b
   pub small : m .count * r ≤ 2560
 
@@ -101,11 +103,11 @@ pub fitting : (m : RtsSmoother) (b : List Float) (s : FilteredState) {r : ℕ} �
 fitting m b s {r} e h q =
     let t = storable-of (length b) (m .n) (m .room) (m .count) (s .n) e in
     let f = t .buffer .sizes in
-    let w = ends-within {k = m .count} {T = m .room} (stride (m .n)) h in
+    let w = ends-within {k = m .count} {n = m .room} (stride (m .n)) h in
     let z = buffer-small (f .size .most) (f .few) in
     subst⁻¹ (λ (r : ℕ). Fitting m b s r) q
     (record {
-      size = subst (λ (k : ℕ). k ≤ 4) (t .same) (f .size .most);
+      size = subst (λ (k : ℕ). sized k ≡ true) (t .same) (sized-true (f .size));
       ends = subst (λ (k : ℕ). m .count * stride (m .n) + stride k ≤ length b) (t .same) (omega (arith, w, t .buffer .whole));
       small = omega (arith, w, z);
     })
@@ -130,6 +132,6 @@ pub handed : (m : RtsSmoother) (b : List Float) (k : ℕ) {r : ℕ} → getState
 handed m b k {r} e q =
     let z = zero-refusal (buffered (length b) (m .n) (m .room) (m .count)) (ltb k (m .count)) e in
     let s = buffered-of (length b) (m .n) (m .room) (m .count) (z .0) in
-    let w = ends-within {k = k} {T = m .room} (stride (m .n)) (omega (arith, ltb-true k (m .count) (z .1), s .sizes .within)) in
+    let w = ends-within {k = k} {n = m .room} (stride (m .n)) (omega (arith, ltb-true k (m .count) (z .1), s .sizes .within)) in
     subst⁻¹ (λ (r : ℕ). Handed m b k r) q
     (record { size = s .sizes .size; ends = omega (arith, w, s .whole); small = omega (arith, w, buffer-small (s .sizes .size .most) (s .sizes .few)) })

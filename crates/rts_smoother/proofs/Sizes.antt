@@ -8,6 +8,7 @@ use lib.Dec.{leb}
 use borrow.Author.Tests.{leb-true, eqb-true}
 use Rattle.scalar.proofs.Choice.{and-left, and-right}
 use Rattle.matrix.specs.Result.{sized}
+use Rattle.buffer.proofs.Places.{ends-within}
 use Rattle.matrix.proofs.Results.{Size, size-of, sized-true}
 use Rattle.rts_smoother.specs.Buffer.{pairLength, stride, roomy, counted, buffered}
 use Rattle.rts_smoother.specs.Record.{storable, smoothable}
@@ -59,13 +60,9 @@ square-small {n} h = omega (arith, mul-le-mul-left n h)
 pub stride-small : {n : ℕ} → n ≤ 4 → stride n ≤ 40
 stride-small h = omega (arith, square-small h)
 
--- slot k of T, each of s numbers, ends within all of them
-pub ends-within : {k T : ℕ} (s : ℕ) → k < T → k * s + s ≤ T * s
-ends-within {k} {T} s h = omega (arith, mul-le-mul-right s h)
-
--- the same for a stride r as the code has it, in a buffer of m numbers
+-- slot k of c, for a stride r as the code has it, in a buffer of m numbers
 pub slot-room : {k c r m : ℕ} (s : ℕ) → k < c → c * s ≤ m → r ≡ s → k * r + s ≤ m
-slot-room {k} {c} {r} {m} s h f e = subst⁻¹ (λ (t : ℕ). k * t + s ≤ m) e (omega (arith, ends-within {k = k} {T = c} s h))
+slot-room {k} {c} {r} {m} s h f e = subst⁻¹ (λ (t : ℕ). k * t + s ≤ m) e (omega (arith, ends-within {k = k} {n = c} s h))
 
 pub buffer-small : {n T : ℕ} → n ≤ 4 → T ≤ 64 → T * stride n ≤ 2560
 buffer-small {n} {T} h k = omega (arith, mul-le-mul-right (stride n) k, stride-small h)

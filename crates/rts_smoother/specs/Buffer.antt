@@ -1,14 +1,15 @@
 -- How slots and smoothed pairs lie in lent buffers, one number after another, for state size n. Definitions only.
 use Prim.Native.Nat.{ℕ, _+_, _-_, _*_}
-use mathlib.Core.List.{List, [], _∷_, _++_, map}
+use mathlib.Core.List.{List, _++_, map}
 use mathlib.Core.Bool.{Bool, _&&_}
 use lib.Dec.{leb, eqb}
-use lib.ListN.{length, take, drop, replicate}
+use lib.ListN.{length, replicate}
 use lib.Ieee.{Float}
 use Rattle.scalar.specs.Number.{+0}
 use Rattle.matrix.specs.Table.{table}
-use Rattle.matrix.specs.Matrix.{Matrix, at, mat}
+use Rattle.matrix.specs.Matrix.{Matrix}
 use Rattle.matrix.specs.Result.{sized}
+use Rattle.buffer.specs.Buffer.{vectorAt, matrixAt, joined}
 use Rattle.kalman.specs.Kalman.{Estimate}
 use Rattle.rts_smoother.specs.Smoother.{Slot, Duty}
 
@@ -23,7 +24,7 @@ stride n = 2 * n + 2 * (n * n)
 
 -- the pair from number k on: state, then covariance by rows
 unfoldable pub pairAt : ℕ → List Float → ℕ → Estimate
-pairAt n b k = record { state = table n (λ i. at b (k + i)); covariance = mat n n (λ i j. at b (k + n + i * n + j)) }
+pairAt n b k = record { state = vectorAt n b k; covariance = matrixAt n n b (k + n) }
 
 -- the slot from number k on: filtered pair, then predicted pair
 unfoldable pub slotFrom : ℕ → List Float → ℕ → Slot
@@ -38,19 +39,11 @@ unfoldable pub dutyOf : ℕ → Matrix → List Float → ℕ → Duty
 dutyOf n F b c = record { size = n; transition = F; slots = table c (λ k. slotAt n b k) }
 
 -- ---- pairs and slots, one number after another
-abbrev pub joined : List (List Float) → List Float
-joined [] = []
-joined (l ∷ m) = l ++ joined m
-
 unfoldable pub pairNumbers : Estimate → List Float
 pairNumbers e = e .state ++ joined (e .covariance)
 
 unfoldable pub slotNumbers : Slot → List Float
 slotNumbers s = pairNumbers (s .filtered) ++ pairNumbers (s .predicted)
-
--- b with the numbers l in place of those from number k on; every other number as it was
-unfoldable pub placed : ℕ → List Float → List Float → List Float
-placed k l b = take k b ++ l ++ drop (k + length l) b
 
 -- the output with room for T pairs: the pairs, then +0
 unfoldable pub outputOf : ℕ → ℕ → List Estimate → List Float

@@ -22,7 +22,8 @@ use Rattle.rts_smoother.specs.declared.Stored.{Stored}
 use Rattle.rts_smoother.specs.declared.CountResult.{CountResult}
 use Rattle.rts_smoother.specs.declared.CountResult.the-variants as Count
 use Rattle.rts_smoother.specs.Smoother.{Slot, smooth}
-use Rattle.rts_smoother.specs.Buffer.{pairLength, stride, dutyOf, joined, pairNumbers, slotNumbers, placed, outputOf, counted, buffered}
+use Rattle.buffer.specs.Buffer.{joined, placed, Left, left}
+use Rattle.rts_smoother.specs.Buffer.{pairLength, stride, dutyOf, pairNumbers, slotNumbers, outputOf, counted, buffered}
 
 -- ---- slots
 abbrev pub estimate : Vector → Matrix → Estimate
@@ -85,12 +86,6 @@ abbrev pub isEmptyOf : RtsSmoother → TestResult
 isEmptyOf m = asTest (where-sized (fits m) (eqb (m .count) 0))
 
 -- ---- calls that are lent a buffer: what they tell, and what the buffer holds in the end
-pub record Left (R : Type 0) : Type 0 where
-  pub told : R
-  pub content : List Float
-
-abbrev pub left : {R : Type 0} → R → List Float → Left R
-left r b = record { told = r; content = b }
 
 -- a buffer of m numbers, and a slot of the smoother's size
 unfoldable pub storable : ℕ → ℕ → ℕ → ℕ → ℕ → Bool
@@ -102,11 +97,11 @@ storeForward m b s =
     if-sized (storable (length b) (m .n) (m .room) (m .count) (s .n))
     (refused-if (leb (m .room) (m .count)) 5 (placed (m .count * stride (m .n)) (slotNumbers (slotOf s)) b))
 
-abbrev pub storedIn : RtsSmoother → List Float → Answer (List Float) → Left Stored
+abbrev pub storedIn : RtsSmoother → List Float → Answer (List Float) → Left Stored (List Float)
 storedIn m b (refused k) = left (record { answer = Refused k; smoother = m }) b
 storedIn m b (answered l) = left (record { answer = Done; smoother = smoother (m .n) (m .room) (m .count + 1) }) l
 
-abbrev pub storeOf : RtsSmoother → List Float → FilteredState → Left Stored
+abbrev pub storeOf : RtsSmoother → List Float → FilteredState → Left Stored (List Float)
 storeOf m b s = storedIn m b (storeForward m b s)
 
 -- why slot k cannot be handed out: 1 for the sizes, 6 where k is not below the count, 0 for neither
@@ -128,15 +123,15 @@ abbrev pub smoothInto : ℕ → ℕ → ℕ → List Float → List (List Float)
 smoothInto n T c b f o = if-sized (smoothable (length b) (length o) n T c) (mapped (outputOf n T) (smooth (dutyOf n (used n n f) b c)))
 
 -- a refusal leaves the output unchanged
-abbrev pub writtenIn : List Float → Answer (List Float) → Left Status
+abbrev pub writtenIn : List Float → Answer (List Float) → Left Status (List Float)
 writtenIn o (refused k) = left (Refused k) o
 writtenIn o (answered l) = left Done l
 
-abbrev pub smoothOf : ℕ → ℕ → ℕ → List Float → List (List Float) → List Float → Left Status
+abbrev pub smoothOf : ℕ → ℕ → ℕ → List Float → List (List Float) → List Float → Left Status (List Float)
 smoothOf n T c b f o = writtenIn o (smoothInto n T c b f o)
 
 -- the smoother's stored slots, with a transition of size k; refused with 1 also where that is not the smoother's
-abbrev pub smoothWith : RtsSmoother → List Float → List (List Float) → ℕ → List Float → Left Status
+abbrev pub smoothWith : RtsSmoother → List Float → List (List Float) → ℕ → List Float → Left Status (List Float)
 smoothWith m b f k o = writtenIn o (if-sized (eqb (m .n) k) (smoothInto (m .n) (m .room) (m .count) b f o))
 
 -- the pass itself, where the sizes are right: its status, and where it is answered the pairs in front of what a buffer held

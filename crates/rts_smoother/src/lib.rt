@@ -4,11 +4,11 @@ ghost use mathlib.Core.Path.{_≡_};
 ghost use Prim.Native.Nat.{_+_, _*_, _≤_};
 ghost use lib.ListN.{length, take};
 ghost use Rattle.matrix.specs.Array.{cut, used, padRow, pad};
-ghost use Rattle.rts_smoother.specs.Buffer.{stride, joined, pairNumbers, slotNumbers, placed, roomy, counted, buffered, pairLength, slotFrom, slotAt};
-ghost use Rattle.rts_smoother.specs.Record.{estimate, slotOf, storable, left, stateFrom, newOf, resetOf, lenOf, isEmptyOf, storeOf, getStateRefusal, getState, smoothable, smoothOf, smoothWith, Passed};
+ghost use Rattle.buffer.specs.Buffer.{placed, left};
+ghost use Rattle.rts_smoother.specs.Buffer.{stride, pairNumbers, slotNumbers, roomy, counted, buffered, pairLength, slotFrom, slotAt};
+ghost use Rattle.rts_smoother.specs.Record.{estimate, slotOf, storable, stateFrom, newOf, resetOf, lenOf, isEmptyOf, storeOf, getStateRefusal, getState, smoothable, smoothOf, smoothWith, Passed};
 ghost use mathlib.Core.Bool.{true};
 ghost use Rattle.matrix.specs.Table.{table};
-ghost use Rattle.matrix.specs.Matrix.{at, mat};
 ghost use Rattle.matrix.specs.Result.{asMatrix, sized};
 ghost use Rattle.inverse.specs.Inverse.{inv};
 ghost use Rattle.kalman.specs.Kalman.{gain};
@@ -97,39 +97,20 @@ fn is_storable(len: usize, n: usize, room: usize, count: usize, size: usize) -> 
     matrix::both(is_buffered(len, n, room, count), n == size)
 }
 
-// ---- numbers into a buffer, from number k on; every other number stays
-
-fn put_vector(b: &mut [f64], k: usize, v: [f64; 4], n: usize)
-    requires { ⌜ (n ≤ 4) × (k + n ≤ length (now b)) ⌝ }
-    ensures { λ r. ⌜ now (b .exit) ≡ placed k (cut n v) (now (b .entry)) ⌝ }
-{
-    for i in 0..n {
-        b[k + i] = v[i];
-    }
-}
-
-// The rows, one after another.
-fn put_matrix(b: &mut [f64], k: usize, m: &[[f64; 4]; 4], n: usize)
-    requires { ⌜ (n ≤ 4) × (k + n * n ≤ length (now b)) ⌝ }
-    ensures { λ r. ⌜ now (b .exit) ≡ placed k (joined (used n n (now (m .entry)))) (now (b .entry)) ⌝ }
-{
-    for i in 0..n {
-        put_vector(b, k + i * n, m[i], n);
-    }
-}
+// ---- pairs and slots into a buffer, from number k on; every other number stays
 
 // A state, then its covariance.
 fn put_pair(b: &mut [f64], k: usize, x: [f64; 4], p: &[[f64; 4]; 4], n: usize)
-    requires { ⌜ (n ≤ 4) × (k + (n + n * n) ≤ length (now b)) ⌝ }
+    requires { ⌜ (sized n ≡ true) × (k + (n + n * n) ≤ length (now b)) ⌝ }
     ensures { λ r. ⌜ now (b .exit) ≡ placed k (pairNumbers (estimate (cut n x) (used n n (now (p .entry))))) (now (b .entry)) ⌝ }
 {
-    put_vector(b, k, x, n);
-    put_matrix(b, k + n, p, n);
+    buffer::put_vector(b, k, x, n);
+    buffer::put_matrix(b, k + n, p, n, n);
 }
 
 // A slot: its filtered pair, then its predicted pair.
 fn put_slot(b: &mut [f64], k: usize, s: FilteredState)
-    requires { ⌜ (s .n ≤ 4) × (k + stride (s .n) ≤ length (now b)) ⌝ }
+    requires { ⌜ (sized (s .n) ≡ true) × (k + stride (s .n) ≤ length (now b)) ⌝ }
     ensures { λ r. ⌜ now (b .exit) ≡ placed k (slotNumbers (slotOf s)) (now (b .entry)) ⌝ }
 {
     let n = s.n;
@@ -315,31 +296,6 @@ impl RtsSmoother {
     }
 }
 
-// ---- numbers out of a buffer, from number k on
-
-fn vector_at(b: &[f64], k: usize, n: usize) -> [f64; 4]
-    requires { ⌜ (n ≤ 4) × (k + n ≤ length (now b)) ⌝ }
-    ensures { λ v. ⌜ v ≡ padRow (table n (λ i. at (now (b .entry)) (k + i))) ⌝ }
-{
-    let mut out = [0.0; 4];
-    for i in 0..n {
-        out[i] = b[k + i];
-    }
-    out
-}
-
-// By rows.
-fn matrix_at(b: &[f64], k: usize, n: usize) -> [[f64; 4]; 4]
-    requires { ⌜ (n ≤ 4) × (k + n * n ≤ length (now b)) ⌝ }
-    ensures { λ m. ⌜ m ≡ pad (mat n n (λ i j. at (now (b .entry)) (k + i * n + j))) ⌝ }
-{
-    let mut out = [[0.0; 4]; 4];
-    for i in 0..n {
-        out[i] = vector_at(b, k + i * n, n);
-    }
-    out
-}
-
 // ---- one slot, given by the number k at which it begins; operations and order are those of rts_smoother.rs
 
 // Its inverted predicted covariance. Refused with 3: inversion rejects it.
@@ -347,7 +303,7 @@ fn inverted(slots: &[f64], k: usize, n: usize) -> MatrixResult
     requires { ⌜ (sized n ≡ true) × (k + stride n ≤ length (now slots)) ⌝ }
     ensures { λ w. ⌜ w ≡ asMatrix (inv n (slotFrom n (now (slots .entry)) k .predicted .covariance)) ⌝ }
 {
-    let p = matrix_at(slots, k + (n + n * n) + n, n);
+    let p = buffer::matrix_at(slots, k + (n + n * n) + n, n, n);
     inverse::inverse_of(&p, n)
 }
 
@@ -362,7 +318,7 @@ fn slot_gain<'a>(
     requires { ⌜ (sized n ≡ true) × (k + stride n ≤ length (now slots)) ⌝ }
     ensures { λ g. ⌜ g ≡ pad (gain n n (slotFrom n (now (slots .entry)) k .filtered .covariance) (used n n (now (f .entry))) (used n n (now (w .entry)))) ⌝ }
 {
-    let p = matrix_at(slots, k + n, n);
+    let p = buffer::matrix_at(slots, k + n, n, n);
     let pft = kernel::product_transposed(&p, f, n, n, n);
     kernel::product(&pft, w, n, n, n)
 }
@@ -378,8 +334,8 @@ fn moved_state<'a>(
     requires { ⌜ (sized n ≡ true) × (k + stride n ≤ length (now slots)) ⌝ }
     ensures { λ v. ⌜ v ≡ padRow (movedState n (slotFrom n (now (slots .entry)) k) (used n n (now (g .entry))) (cut n next)) ⌝ }
 {
-    let x = vector_at(slots, k, n);
-    let y = vector_at(slots, k + (n + n * n), n);
+    let x = buffer::vector_at(slots, k, n);
+    let y = buffer::vector_at(slots, k + (n + n * n), n);
     let d = kernel::vector_difference(next, y, n);
     let gd = kernel::product_vector(g, &d, n, n);
     kernel::vector_sum(x, gd, n)
@@ -396,8 +352,8 @@ fn moved_covariance<'a>(
     requires { ⌜ (sized n ≡ true) × (k + stride n ≤ length (now slots)) ⌝ }
     ensures { λ v. ⌜ v ≡ pad (movedCovariance n (slotFrom n (now (slots .entry)) k) (used n n (now (g .entry))) (used n n (now (next .entry)))) ⌝ }
 {
-    let p = matrix_at(slots, k + n, n);
-    let q = matrix_at(slots, k + (n + n * n) + n, n);
+    let p = buffer::matrix_at(slots, k + n, n, n);
+    let q = buffer::matrix_at(slots, k + (n + n * n) + n, n, n);
     let d = kernel::difference(next, &q, n, n);
     let gd = kernel::product(g, &d, n, n, n);
     let c = kernel::product_transposed(&gd, g, n, n, n);
@@ -421,8 +377,8 @@ fn back<'a>(
     let stride = stride_of(n);
     let pair = n + n * n;
     let mut k = count - 1;
-    let mut x = vector_at(slots, k * stride, n);
-    let mut p = matrix_at(slots, k * stride + n, n);
+    let mut x = buffer::vector_at(slots, k * stride, n);
+    let mut p = buffer::matrix_at(slots, k * stride + n, n, n);
     while 0 < k {
         put_pair(out, k * pair, x, &p, n);
         k -= 1;

@@ -8,6 +8,7 @@ use borrow.Author.Needs.{needs}
 use Rattle.matrix.specs.Array.{used}
 use Rattle.matrix.specs.Result.{sized}
 use Rattle.matrix.proofs.Results.{size-of}
+use Rattle.buffer.proofs.Calls.{vector-read, matrix-read}
 use Rattle.rts_smoother.specs.Buffer.{stride, slotFrom}
 use Rattle.rts_smoother.proofs.Sizes.{square-small, slot-room}
 use Rattle.rts_smoother.proofs.Passes.{Going, going-start, going-room, going-more, going-stop, going-done, gain-answered, gain-refused}
@@ -28,19 +29,17 @@ last-room : (c : tie.After-stride-of Inv-loop μ-loop)
     → let s = c .before .before .before in (s .args .count - 1) * c .stride-of .result + stride (s .args .n) ≤ length (s .args .slots .now)
 last-room c = let s = c .before .before .before in slot-room (stride (s .args .n)) (omega arith) (s .pre .3) (c .stride-of .ensures)
 
-vector-at-requires : tie.Need-vector-at-requires Inv-loop μ-loop
-vector-at-requires c κs = (size-of _ (c .before .before .before .pre .0) .most, omega (arith, last-room c))
-
-matrix-at-requires : tie.Need-matrix-at-requires Inv-loop μ-loop
-matrix-at-requires c κs = (size-of _ (c .before .before .before .before .pre .0) .most, omega (arith, last-room (c .before)))
-
 loop-holds : tie.Need-loop-holds Inv-loop μ-loop
 loop-holds c =
     let s = c .before .before .before .before .before in
-    going-start _ _ _ _ (c .before .before .stride-of .ensures) (omega arith) (s .pre .4) (c .before .vector-at .ensures) (c .matrix-at .ensures)
+    let N = size-of _ (s .pre .0) in
+    let last = last-room (c .before .before) in
+    let k = (s .args .count - 1) * c .before .before .stride-of .result in
+    going-start _ _ _ _ (c .before .before .stride-of .ensures) (omega arith) (s .pre .4) (vector-read k (s .args .slots .now) N (omega (arith, last)) (c .before .vector-at .ensures))
+    (matrix-read (k + s .args .n) (s .args .slots .now) N N (omega (arith, last)) (c .matrix-at .ensures))
 
 put-pair-requires : tie.Need-put-pair-requires Inv-loop μ-loop
-put-pair-requires c κs = (size-of _ (c .before .before .before .before .before .before .before .before .before .pre .0) .most, going-room _ _ _ _ (c .before .before .before .loop .inv))
+put-pair-requires c κs = (c .before .before .before .before .before .before .before .before .before .pre .0, going-room _ _ _ _ (c .before .before .before .loop .inv))
 
 -- the slot before slot k lies within the buffer
 loop-room : (c : tie.In-loop Inv-loop μ-loop)
@@ -88,7 +87,7 @@ returns c =
     (gain-refused _ _ _ (inverse .inverted .ensures) (c .before .status .given .1))
 
 put-pair-requires-2 : tie.Need-put-pair-requires-2 Inv-loop μ-loop
-put-pair-requires-2 c κs = (size-of _ (c .before .before .before .before .before .before .before .before .before .pre .0) .most, omega (arith, going-room _ _ _ _ (c .before .before .before .loop .inv)))
+put-pair-requires-2 c κs = (c .before .before .before .before .before .before .before .before .before .pre .0, omega (arith, going-room _ _ _ _ (c .before .before .before .loop .inv)))
 
 returns-2 : tie.Need-returns-2 Inv-loop μ-loop
 returns-2 c =
@@ -106,10 +105,10 @@ back-spec =
     (λ c. omega (arith, square-small (size-of _ (c .before .before .before .pre .0) .most), size-of _ (c .before .before .before .pre .0)))
     (λ c. omega arith)
     (λ c. omega (arith, last-room c))
-    vector-at-requires
+    (λ c κs. search needs)
     (λ c. omega (arith, last-room (c .before)))
     (λ c. omega (arith, last-room (c .before)))
-    matrix-at-requires
+    (λ c κs. search needs)
     loop-holds
     (λ c. omega (arith, going-room _ _ _ _ (c .before .before .loop .inv)))
     put-pair-requires

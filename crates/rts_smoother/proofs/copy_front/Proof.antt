@@ -2,7 +2,7 @@
 use Prim.Native.Nat.{_-_}
 use native.Mathlib.Omega.{arith}
 use lib.ListN.{length}
-use Rattle.rts_smoother.proofs.Places.{Copying, copying-none, copying-more, copying-all}
+use Rattle.buffer.proofs.Places.{Copying, copying-none, copying-more, copying-all}
 use Rattle.rts_smoother.proofs.copy_front.Statement.{statement}
 use Rattle.rts_smoother.proofs.copy_front.Tie as tie
 

@@ -1,12 +1,12 @@
--- `vector_at` meets its contract: the loop fills a row of +0 from the front.
+-- `read_vector` meets its contract: the loop fills a row of +0 from the front.
 use mathlib.Core.Path.{refl}
 use Prim.Native.Nat.{_+_, _-_}
 use native.Mathlib.Omega.{arith}
 use Rattle.scalar.specs.Number.{+0}
 use Rattle.matrix.specs.Matrix.{at}
 use Rattle.matrix.proofs.Tables.{Filling, filling-none, filling-more, filling-all}
-use Rattle.rts_smoother.proofs.vector_at.Statement.{statement}
-use Rattle.rts_smoother.proofs.vector_at.Tie as tie
+use Rattle.buffer.proofs.read_vector.Statement.{statement}
+use Rattle.buffer.proofs.read_vector.Tie as tie
 
 abbrev Inv-loop : tie.InvT-loop
 Inv-loop b k n out₀ i₀ out i = Filling 4 +0 (λ i. at b (k + i)) n i out
@@ -23,8 +23,8 @@ loop-again c = filling-more (c .before .before .loop .inv) (omega arith) (omega 
 returns : tie.Need-returns Inv-loop μ-loop
 returns c = filling-all (c .before .loop .inv) (omega arith)
 
-pub vector-at-spec : {M : Type 1} → statement M
-vector-at-spec =
+pub read-vector-spec : {M : Type 1} → statement M
+read-vector-spec =
     tie.close
     (tie.spec
     Inv-loop

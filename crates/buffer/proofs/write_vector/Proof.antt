@@ -1,4 +1,4 @@
--- `put_vector` meets its contract: the loop places the numbers one after another.
+-- `write_vector` meets its contract: the loop places the numbers one after another.
 use mathlib.Core.Path.{refl, ap, _∙_}
 use mathlib.Core.List.{List, [], _∷_}
 use Prim.Native.Nat.{_-_}
@@ -6,10 +6,10 @@ use native.Mathlib.Omega.{arith}
 use lib.Ieee.{Float}
 use Rattle.matrix.specs.Matrix.{at}
 use Rattle.matrix.specs.Array.{cut}
-use Rattle.rts_smoother.specs.Buffer.{placed}
-use Rattle.rts_smoother.proofs.Places.{set-placed, joined-single, Putting, putting-none, putting-more, putting-all}
-use Rattle.rts_smoother.proofs.put_vector.Statement.{statement}
-use Rattle.rts_smoother.proofs.put_vector.Tie as tie
+use Rattle.buffer.specs.Buffer.{placed}
+use Rattle.buffer.proofs.Places.{set-placed, joined-single, Putting, putting-none, putting-more, putting-all}
+use Rattle.buffer.proofs.write_vector.Statement.{statement}
+use Rattle.buffer.proofs.write_vector.Tie as tie
 
 abbrev Inv-loop : tie.InvT-loop
 Inv-loop b₀ k n v i₀ b i = Putting k 1 (λ i. at v i ∷ []) b₀ n i b
@@ -29,8 +29,8 @@ returns c =
     let a = c .before .before .args in
     putting-all (c .before .loop .inv) (omega arith) ∙ ap (λ (l : List Float). placed (a .k) l (a .b .now)) (joined-single (a .n) (λ i. at (a .t3) i))
 
-pub put-vector-spec : {M : Type 1} → statement M
-put-vector-spec =
+pub write-vector-spec : {M : Type 1} → statement M
+write-vector-spec =
     tie.close
     (tie.spec
     Inv-loop

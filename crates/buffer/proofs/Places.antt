@@ -1,7 +1,10 @@
--- Laws of numbers placed in a buffer: those placed after and before others, and a loop that places parts of one length. Assumes nothing.
+-- Laws of numbers placed in a buffer: room for them, those placed after and before others, and loops that place parts or copy. Assumes nothing.
 use mathlib.Core.Path.{_≡_, refl, sym, ap, ap₂, _∙_, subst}
 use mathlib.Core.List.{List, [], _∷_, _++_, append-assoc, append-nil}
-use Prim.Native.Nat.{ℕ, zero, suc, _+_, _*_, _≤_, _<_}
+use mathlib.Core.Bool.{Bool, true, false}
+use lib.Dec.{leb}
+use borrow.Author.Tests.{leb-true, leb-false, le-leb, lt-leb}
+use Prim.Native.Nat.{ℕ, zero, suc, _+_, _-_, _*_, _≤_, _<_}
 use native.Mathlib.Nat.{mul-le-mul-right, suc-mul}
 use native.Mathlib.Numerals.{add-one}
 use native.Mathlib.Omega.{arith}
@@ -12,8 +15,22 @@ use Rattle.matrix.specs.Table.{table}
 use Rattle.matrix.specs.Matrix.{Matrix, at, row}
 use Rattle.matrix.proofs.Tables.{table-getD}
 use Rattle.matrix.proofs.Matrices.{Shape}
-use Rattle.rts_smoother.specs.Buffer.{joined, placed}
+use Rattle.buffer.specs.Buffer.{joined, placed, room}
 
+-- ---- room in a buffer, as the code tests it
+pub room-less : (k n m : ℕ) → n ≤ m → leb k (m - n) ≡ room k n m
+unfolding room
+room-less k n m h = same (leb k (m - n)) refl
+  where
+    same : (t : Bool) → leb k (m - n) ≡ t → t ≡ leb (k + n) m
+    same true e = let g = leb-true k (m - n) e in sym (le-leb (k + n) m (omega arith))
+    same false e = let g = leb-false k (m - n) e in sym (lt-leb (k + n) m (omega arith))
+
+pub room-none : (k n m : ℕ) → m < n → false ≡ room k n m
+unfolding room
+room-none k n m h = sym (lt-leb (k + n) m (omega arith))
+
+-- ---- numbers that are placed
 pub length-placed : (k : ℕ) (l b : List Float) → k + length l ≤ length b → length (placed k l b) ≡ length b
 unfolding placed
 length-placed k l b h = simp (length-append, length-take, length-drop) (omega arith)
@@ -80,6 +97,12 @@ length-rows r c A s =
 pub joined-single : (n : ℕ) (f : ℕ → Float) → joined (table n (λ i. f i ∷ [])) ≡ table n f
 joined-single zero f = refl
 joined-single (suc n) f = ap (λ (t : List Float). f zero ∷ t) (joined-single n (λ i. f (suc i)))
+
+-- ---- parts of one length
+
+-- part k of n, each of w numbers, ends within all of them
+pub ends-within : {k n : ℕ} (w : ℕ) → k < n → k * w + w ≤ n * w
+ends-within {k} {n} w h = omega (arith, mul-le-mul-right w h, suc-mul k w)
 
 -- ---- a loop that places parts
 
