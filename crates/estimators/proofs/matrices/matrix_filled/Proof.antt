@@ -1,0 +1,30 @@
+-- `matrix_filled` meets its contract.
+use mathlib.Core.Path.{sym, ap, _∙_}
+use borrow.Author.Needs.{needs}
+use Rattle.matrix.proofs.Results.{shaped-true}
+use Rattle.matrix.specs.Matrix.{filled}
+use Rattle.matrix.specs.Result.{asMatrix}
+use Rattle.matrix.proofs.Matrices.{shape-filled}
+use Rattle.estimators.specs.Slices.{wrote}
+use Rattle.estimators.proofs.Ways.{matrix-out-where, refuses-where, where-true, whole-of}
+use Rattle.estimators.proofs.matrices.matrix_filled.Statement.{statement}
+use Rattle.estimators.proofs.matrices.matrix_filled.Tie as tie
+
+give-matrix-requires : tie.Need-give-matrix-requires
+give-matrix-requires c κs = sym (c .before .before .before .is-rows .ensures) ∙ c .before .before .if1 .taken
+
+returns : tie.Need-returns
+returns c =
+    let t = c .before .before .before .before .before in
+    let a = t .before .before .before .args in
+    let e = sym (t .before .is-rows .ensures) ∙ t .if1 .taken in
+    let w = whole-of _ _ _ e in
+    matrix-out-where (filled (a .r) (a .c) (a .val)) (a .out .now) e (shape-filled _ _ _)
+    (c .before .before .before .filled .ensures ∙ ap asMatrix (where-true _ (shaped-true (w .rows) (w .cols))))
+    (c .before .before .give-matrix .ensures)
+
+returns-2 : tie.Need-returns-2
+returns-2 c = refuses-where (wrote (c .before .before .before .args .out .now)) _ (sym (c .before .is-rows .ensures) ∙ c .if1 .left)
+
+pub matrix-filled-spec : {M : Type 1} → statement M
+matrix-filled-spec = tie.close (tie.spec (λ c κs. search needs) (λ c κs. search needs) give-matrix-requires (λ c. search needs) returns returns-2)

@@ -1,0 +1,40 @@
+-- `matrix_sub_mat` meets its contract.
+use mathlib.Core.Path.{sym, ap, ap₂, _∙_}
+use borrow.Author.Needs.{needs}
+use Rattle.matrix.specs.Matrix.{Matrix, sub}
+use Rattle.matrix.proofs.Kernels.{shape-sub}
+use Rattle.matrix.specs.Result.{asMatrix}
+use Rattle.matrix.specs.Answer.{answered}
+use Rattle.estimators.specs.Slices.{rows, wrote}
+use Rattle.estimators.proofs.Ways.{alike-true, matrix-out-where, refuses-where, rows-read, three-of, where-true}
+use Rattle.estimators.proofs.matrices.matrix_sub_mat.Statement.{statement}
+use Rattle.estimators.proofs.matrices.matrix_sub_mat.Tie as tie
+
+give-matrix-requires : tie.Need-give-matrix-requires
+give-matrix-requires c κs = three-of _ _ _ _ _ _ _ _ _ (sym (c .before .before .before .before .before .is-combined .ensures) ∙ c .before .before .before .before .if1 .taken) .last
+
+returns : tie.Need-returns
+returns c =
+    let t = c .before .before .before .before .before .before .before in
+    let a = t .before .before .before .before .before .args in
+    let e = sym (t .before .is-combined .ensures) ∙ t .if1 .taken in
+    let w = three-of _ _ _ _ _ _ _ _ _ e in
+    matrix-out-where (sub (a .r) (a .c) (rows (a .r) (a .c) (a .a .now)) (rows (a .r) (a .c) (a .b .now))) (a .out .now) e (shape-sub _ _ _ _)
+    (c .before .before .before .sub-mat .ensures ∙ ap asMatrix (where-true _ (alike-true (w .first .rows) (w .first .cols)) ∙ ap₂ (λ (A B : Matrix). answered (sub (a .r) (a .c) A B)) (rows-read (a .a .now) (w .first) (c .before .before .before .before .before .before .matrix-at .ensures)) (rows-read (a .b .now) (w .second) (c .before .before .before .before .before .matrix-at2 .ensures))))
+    (c .before .before .give-matrix .ensures)
+
+returns-2 : tie.Need-returns-2
+returns-2 c = refuses-where (wrote (c .before .before .before .before .before .args .out .now)) _ (sym (c .before .is-combined .ensures) ∙ c .if1 .left)
+
+pub matrix-sub-mat-spec : {M : Type 1} → statement M
+matrix-sub-mat-spec =
+    tie.close
+    (tie.spec
+    (λ c κs. search needs)
+    (λ c κs. search needs)
+    (λ c κs. search needs)
+    (λ c κs. search needs)
+    give-matrix-requires
+    (λ c. search needs)
+    returns
+    returns-2)

@@ -1,0 +1,3 @@
+pub mod Slices
+pub mod Given
+pub mod Filter

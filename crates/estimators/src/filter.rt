@@ -1,0 +1,336 @@
+// src/estimator/kalman.rs for C: a filter of state n, measurement m and input i is one slice that the caller lends: a,
+// b, h, q, r, x and p by rows, one after another. Refused with 1: a size, or a slice of another length.
+ghost use mathlib.Core.Path.{_≡_};
+ghost use mathlib.Core.Bool.{true, _&&_};
+ghost use Prim.Native.Nat.{_+_, _*_, _≤_};
+ghost use lib.Dec.{eqb};
+ghost use lib.ListN.{length};
+ghost use Rattle.matrix.specs.Answer.{where-sized, if-sized};
+ghost use Rattle.matrix.specs.Array.{cut, usedFlat};
+ghost use Rattle.matrix.specs.Result.{sized};
+ghost use Rattle.kalman.specs.Kalman.{predict, update, tracker, atStart};
+ghost use Rattle.kalman.specs.Record.{modelOf, estimateOf};
+ghost use Rattle.buffer.specs.Buffer.{matrixAt, joined, placed, left};
+ghost use Rattle.rts_smoother.specs.Buffer.{pairNumbers};
+ghost use Rattle.rts_smoother.specs.Record.{estimate};
+ghost use Rattle.estimators.specs.Slices.{isRows, isVector, rows, written, wrote};
+ghost use Rattle.estimators.specs.Filter.{estimateFrom, isFilter, isStep, isParts, modelIn, estimateIn, modelOfRows, filterNumbers, withEstimate, updatedIn};
+use crate::give_matrix;
+use crate::give_vector;
+use crate::is_combined;
+use crate::is_mapped;
+use crate::is_rows;
+use kalman::KalmanFilter;
+use matrix::Status;
+use matrix::both;
+use matrix::kernel;
+
+// ---- sizes and places
+
+// Where the estimate begins.
+fn estimate_from(n: usize, m: usize, i: usize) -> usize
+    requires { ⌜ (sized n ≡ true) × (sized m ≡ true) × (sized i ≡ true) ⌝ }
+    ensures { λ k. ⌜ (k ≡ estimateFrom n m i) × (k ≤ 80) ⌝ }
+{
+    n * n + n * i + m * n + n * n + m * m
+}
+
+// A slice of len numbers is just a filter.
+fn is_filter(n: usize, m: usize, i: usize, len: usize) -> bool
+    ensures { λ t. ⌜ t ≡ isFilter n m i len ⌝ }
+{
+    if both(
+        matrix::is_size(n),
+        both(matrix::is_size(m), matrix::is_size(i)),
+    ) {
+        len == estimate_from(n, m, i) + (n + n * n)
+    } else {
+        false
+    }
+}
+
+// And the k numbers beside it are as many as are asked for.
+fn is_step(n: usize, m: usize, i: usize, len: usize, asked: usize, k: usize) -> bool
+    ensures { λ t. ⌜ t ≡ isStep n m i len asked k ⌝ }
+{
+    both(is_filter(n, m, i, len), k == asked)
+}
+
+// ---- between a slice and the filter's record
+
+// The r rows of c numbers from number k on, flat.
+fn flat_in(f: &[f64], k: usize, r: usize, c: usize) -> [f64; 16]
+    requires { ⌜ (sized r ≡ true) × (sized c ≡ true) × (k + r * c ≤ length (now f)) ⌝ }
+    ensures { λ v. ⌜ usedFlat r c v ≡ matrixAt r c (now (f .entry)) k ⌝ }
+{
+    let m = buffer::matrix_at(f, k, r, c);
+    kernel::to_flat(&m)
+}
+
+fn filter_in(f: &[f64], n: usize, m: usize, i: usize) -> KalmanFilter
+    requires { ⌜ isFilter n m i (length (now f)) ≡ true ⌝ }
+    ensures { λ k. ⌜ (modelOf k ≡ modelIn n m i (now (f .entry))) × (estimateOf k ≡ estimateIn n m i (now (f .entry))) ⌝ }
+{
+    let h = n * n + n * i;
+    let q = h + m * n;
+    let x = estimate_from(n, m, i);
+    KalmanFilter {
+        n,
+        m,
+        i,
+        a: flat_in(f, 0, n, n),
+        b: flat_in(f, n * n, n, i),
+        h: flat_in(f, h, m, n),
+        q: flat_in(f, q, n, n),
+        r: flat_in(f, q + n * n, m, m),
+        x: buffer::vector_at(f, x, n),
+        p: flat_in(f, x + n, n, n),
+    }
+}
+
+// The record's state and covariance from number k on; the model stays as it stands.
+fn put_estimate(f: &mut [f64], k: usize, n: usize, g: KalmanFilter)
+    requires { ⌜ (sized n ≡ true) × (k + (n + n * n) ≤ length (now f)) ⌝ }
+    ensures { λ u. ⌜ now (f .exit) ≡ placed k (pairNumbers (estimate (cut n (g .x)) (usedFlat n n (g .p)))) (now (f .entry)) ⌝ }
+{
+    let x = g.x;
+    let p = kernel::from_flat(&g.p);
+    buffer::put_vector(f, k, x, n);
+    buffer::put_matrix(f, k + n, &p, n, n);
+}
+
+// ---- the steps
+
+// One step on, with the input u of i numbers.
+#[no_mangle]
+pub extern "C" fn kalman_predict(n: usize, m: usize, i: usize, filter: &mut [f64], u: &[f64]) -> u8
+    ensures { λ t. ⌜ left t (now (filter .exit)) ≡ written (now (filter .entry)) (where-sized (isStep n m i (length (now (filter .entry))) i (length (now (u .entry)))) (withEstimate n m i (now (filter .entry)) (predict (modelIn n m i (now (filter .entry))) (estimateIn n m i (now (filter .entry))) (now (u .entry))))) ⌝ }
+{
+    if is_step(n, m, i, filter.len(), i, u.len()) {
+        let f = filter_in(filter, n, m, i);
+        let v = buffer::vector_at(u, 0, i);
+        let s = f.predict(v, i);
+        let g = s.filter;
+        put_estimate(filter, estimate_from(n, m, i), n, g);
+        0
+    } else {
+        1
+    }
+}
+
+// The measurement z of m numbers; the innovation is z less H times the state before. Refused with 3: the innovation
+// covariance is rejected.
+#[no_mangle]
+pub extern "C" fn kalman_update(
+    n: usize,
+    m: usize,
+    i: usize,
+    filter: &mut [f64],
+    z: &[f64],
+    innovation: &mut [f64],
+) -> u8
+    ensures { λ t. ⌜ left t (now (filter .exit), now (innovation .exit)) ≡ updatedIn n m i (now (filter .entry)) (now (innovation .entry)) (if-sized (isStep n m i (length (now (filter .entry))) m (length (now (z .entry))) && isVector m (length (now (innovation .entry)))) (update (modelIn n m i (now (filter .entry))) (estimateIn n m i (now (filter .entry))) (now (z .entry)))) ⌝ }
+{
+    if both(
+        is_step(n, m, i, filter.len(), m, z.len()),
+        is_rows(m, 1, innovation.len()),
+    ) {
+        let f = filter_in(filter, n, m, i);
+        let v = buffer::vector_at(z, 0, m);
+        let s = f.update(v, m);
+        let answer = s.answer;
+        let g = s.filter;
+        let y = answer.cells;
+        let status = answer.status;
+        match status {
+            Status::Done => {
+                put_estimate(filter, estimate_from(n, m, i), n, g);
+                buffer::put_vector(innovation, 0, y, m);
+                0
+            }
+            Status::Refused(number) => number,
+        }
+    } else {
+        1
+    }
+}
+
+// The state x0 and the covariance p0 in place of the filter's.
+#[no_mangle]
+pub extern "C" fn kalman_reset(
+    n: usize,
+    m: usize,
+    i: usize,
+    filter: &mut [f64],
+    x0: &[f64],
+    p0: &[f64],
+) -> u8
+    ensures { λ t. ⌜ left t (now (filter .exit)) ≡ written (now (filter .entry)) (where-sized (isFilter n m i (length (now (filter .entry))) && (isVector n (length (now (x0 .entry))) && isRows n n (length (now (p0 .entry))))) (withEstimate n m i (now (filter .entry)) (estimate (now (x0 .entry)) (rows n n (now (p0 .entry)))))) ⌝ }
+{
+    if both(
+        is_filter(n, m, i, filter.len()),
+        is_mapped(n, 1, x0.len(), n, n, p0.len()),
+    ) {
+        let f = filter_in(filter, n, m, i);
+        let x = buffer::vector_at(x0, 0, n);
+        let p = buffer::matrix_at(p0, 0, n, n);
+        let s = f.reset(x, p, n);
+        let g = s.filter;
+        put_estimate(filter, estimate_from(n, m, i), n, g);
+        0
+    } else {
+        1
+    }
+}
+
+// ---- copies of the state and of the covariance
+
+#[no_mangle]
+pub extern "C" fn kalman_state(n: usize, m: usize, i: usize, filter: &[f64], out: &mut [f64]) -> u8
+    ensures { λ t. ⌜ left t (now (out .exit)) ≡ written (now (out .entry)) (where-sized (isFilter n m i (length (now (filter .entry))) && isVector n (length (now (out .entry)))) (estimateIn n m i (now (filter .entry)) .state)) ⌝ }
+{
+    if both(is_filter(n, m, i, filter.len()), is_rows(n, 1, out.len())) {
+        let f = filter_in(filter, n, m, i);
+        give_vector(out, f.state(), n)
+    } else {
+        1
+    }
+}
+
+#[no_mangle]
+pub extern "C" fn kalman_covariance(
+    n: usize,
+    m: usize,
+    i: usize,
+    filter: &[f64],
+    out: &mut [f64],
+) -> u8
+    ensures { λ t. ⌜ left t (now (out .exit)) ≡ wrote (now (out .entry)) (where-sized (isFilter n m i (length (now (filter .entry))) && isRows n n (length (now (out .entry)))) (estimateIn n m i (now (filter .entry)) .covariance)) ⌝ }
+{
+    if both(is_filter(n, m, i, filter.len()), is_rows(n, n, out.len())) {
+        let f = filter_in(filter, n, m, i);
+        give_matrix(out, f.covariance(), n, n)
+    } else {
+        1
+    }
+}
+
+// ---- a filter into a slice
+
+// The r rows and c columns of a flat matrix, from number k on.
+fn put_flat(f: &mut [f64], k: usize, cells: &[f64; 16], r: usize, c: usize)
+    requires { ⌜ (sized r ≡ true) × (sized c ≡ true) × (k + r * c ≤ length (now f)) ⌝ }
+    ensures { λ u. ⌜ now (f .exit) ≡ placed k (joined (usedFlat r c (now (cells .entry)))) (now (f .entry)) ⌝ }
+{
+    let m = kernel::from_flat(cells);
+    buffer::put_matrix(f, k, &m, r, c);
+}
+
+fn put_filter(f: &mut [f64], g: KalmanFilter)
+    requires { ⌜ isFilter (g .n) (g .m) (g .i) (length (now f)) ≡ true ⌝ }
+    ensures { λ u. ⌜ now (f .exit) ≡ filterNumbers (modelOf g) (estimateOf g) ⌝ }
+{
+    let n = g.n;
+    let m = g.m;
+    let i = g.i;
+    let h = n * n + n * i;
+    let q = h + m * n;
+    put_flat(f, 0, &g.a, n, n);
+    put_flat(f, n * n, &g.b, n, i);
+    put_flat(f, h, &g.h, m, n);
+    put_flat(f, q, &g.q, n, n);
+    put_flat(f, q + n * n, &g.r, m, m);
+    put_estimate(f, estimate_from(n, m, i), n, g);
+}
+
+// The slices of the seven parts are right.
+fn is_parts(
+    n: usize,
+    m: usize,
+    i: usize,
+    a: usize,
+    b: usize,
+    h: usize,
+    q: usize,
+    r: usize,
+    x: usize,
+    p: usize,
+) -> bool
+    ensures { λ t. ⌜ t ≡ isParts n m i a b h q r x p ⌝ }
+{
+    both(
+        is_combined(n, n, a, n, i, b, m, n, h),
+        both(is_mapped(n, n, q, m, m, r), is_mapped(n, 1, x, n, n, p)),
+    )
+}
+
+// The filter of a model and an estimate.
+#[no_mangle]
+pub extern "C" fn kalman_new(
+    n: usize,
+    m: usize,
+    i: usize,
+    a: &[f64],
+    b: &[f64],
+    h: &[f64],
+    q: &[f64],
+    r: &[f64],
+    x0: &[f64],
+    p0: &[f64],
+    filter: &mut [f64],
+) -> u8
+    ensures { λ t. ⌜ left t (now (filter .exit)) ≡ written (now (filter .entry)) (where-sized (isFilter n m i (length (now (filter .entry))) && isParts n m i (length (now (a .entry))) (length (now (b .entry))) (length (now (h .entry))) (length (now (q .entry))) (length (now (r .entry))) (length (now (x0 .entry))) (length (now (p0 .entry)))) (filterNumbers (modelOfRows n m i (now (a .entry)) (now (b .entry)) (now (h .entry)) (now (q .entry)) (now (r .entry))) (estimate (now (x0 .entry)) (rows n n (now (p0 .entry)))))) ⌝ }
+{
+    if both(
+        is_filter(n, m, i, filter.len()),
+        is_parts(
+            n,
+            m,
+            i,
+            a.len(),
+            b.len(),
+            h.len(),
+            q.len(),
+            r.len(),
+            x0.len(),
+            p0.len(),
+        ),
+    ) {
+        let s = KalmanFilter::new(
+            n,
+            m,
+            i,
+            buffer::matrix_at(a, 0, n, n),
+            buffer::matrix_at(b, 0, n, i),
+            buffer::matrix_at(h, 0, m, n),
+            buffer::matrix_at(q, 0, n, n),
+            buffer::matrix_at(r, 0, m, m),
+            buffer::vector_at(x0, 0, n),
+            buffer::matrix_at(p0, 0, n, n),
+        );
+        let g = s.filter;
+        put_filter(filter, g);
+        0
+    } else {
+        1
+    }
+}
+
+// Position and speed, with the step dt in seconds; the position is measured. The slice has 19 numbers.
+#[no_mangle]
+pub extern "C" fn kalman_position_velocity(
+    dt: f64,
+    process_noise: f64,
+    measurement_noise: f64,
+    filter: &mut [f64],
+) -> u8
+    ensures { λ t. ⌜ left t (now (filter .exit)) ≡ written (now (filter .entry)) (where-sized (eqb (length (now (filter .entry))) 19) (filterNumbers (tracker dt «process_noise» «measurement_noise») atStart)) ⌝ }
+{
+    if filter.len() == 19 {
+        let g = KalmanFilter::position_velocity(dt, process_noise, measurement_noise);
+        put_filter(filter, g);
+        0
+    } else {
+        1
+    }
+}
