@@ -8,7 +8,7 @@ use Rattle.matrix.specs.Answer.{Answer, refused, and-then, mapped, refused-if}
 use Rattle.matrix.specs.Matrix.{Matrix, cell, identity}
 use Rattle.matrix.specs.Array.{cut, used}
 use Rattle.inverse.specs.Inverse.{noPivot, pivotRow, swapped, scaledRow, reduced, Augmented, _∣_, exchanged, cleared, column, columns, inv}
-use Rattle.inverse.specs.Two.{oneByOne, twoByTwo, fromDiagonal}
+use Rattle.inverse.specs.Two.{oneByOne, twoByTwo, reciprocal, fromDiagonal}
 
 -- the right part after a test, and after a test and a step more
 tested : (b : Bool) (w : Augmented) → mapped (λ v. v .right) (refused-if b 3 w) ≡ refused-if b 3 (w .right)
@@ -23,6 +23,14 @@ then-tested false w f = refl
 pub one-is : (x : Float) → inv 1 (oneByOne x) ≡ refused-if (noPivot (abs x)) 3 (oneByOne (one ⊗ (one ⊘ x)))
 unfolding inv columns column exchanged swapped cleared scaledRow reduced pivotRow identity
 one-is x = tested (noPivot (abs x)) (cleared 1 0 (exchanged 1 0 0 (oneByOne x ∣ identity 1)))
+
+pub number-is : (x : Float) → inv 1 (oneByOne x) ≡ mapped oneByOne (reciprocal x)
+unfolding reciprocal
+number-is x = one-is x ∙ within (noPivot (abs x))
+  where
+    within : (b : Bool) → refused-if b 3 (oneByOne (one ⊗ (one ⊘ x))) ≡ mapped oneByOne (refused-if b 3 (one ⊗ (one ⊘ x)))
+    within true = refl
+    within false = refl
 
 -- the pivot of the second column; and of a column of the right part that was x, y, what comes to stand in the second row and in the first
 module _ (a b p q e f g h : Float) where

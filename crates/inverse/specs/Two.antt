@@ -1,7 +1,7 @@
 -- Matrices of the sizes 1 and 2, and the part of the elimination that the straight-line code has. Definitions only.
 use mathlib.Core.List.{[], _∷_}
 use lib.Ieee.{Float}
-use Rattle.scalar.specs.Number.{abs}
+use Rattle.scalar.specs.Number.{_⊗_, _⊘_, one, abs}
 use Rattle.matrix.specs.Answer.{Answer, and-then, mapped, refused-if}
 use Rattle.matrix.specs.Matrix.{Matrix, cell}
 use Rattle.inverse.specs.Inverse.{noPivot, _∣_, cleared, column}
@@ -11,6 +11,10 @@ oneByOne x = (x ∷ []) ∷ []
 
 abbrev pub twoByTwo : Float → Float → Float → Float → Matrix
 twoByTwo a b c d = (a ∷ b ∷ []) ∷ (c ∷ d ∷ []) ∷ []
+
+-- the one cell of the inverse of a matrix of one cell
+unfoldable pub reciprocal : Float → Answer Float
+reciprocal x = refused-if (noPivot (abs x)) 3 (one ⊗ (one ⊘ x))
 
 -- the right part in the end, from where the pivot of the first column stands on the diagonal
 unfoldable pub fromDiagonal : Matrix → Matrix → Answer Matrix

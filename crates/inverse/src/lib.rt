@@ -9,11 +9,12 @@ ghost use Rattle.matrix.specs.Answer.{if-sized};
 ghost use Rattle.matrix.specs.Table.{table};
 ghost use Rattle.matrix.specs.Matrix.{cell};
 ghost use Rattle.matrix.specs.Array.{used};
-ghost use Rattle.matrix.specs.Result.{asMatrix, sized};
-ghost use Rattle.inverse.specs.Two.{oneByOne, twoByTwo, fromDiagonal};
+ghost use Rattle.matrix.specs.Result.{asMatrix, asScalar, sized};
+ghost use Rattle.inverse.specs.Two.{oneByOne, twoByTwo, reciprocal, fromDiagonal};
 ghost use Rattle.inverse.specs.Rows.{Swap, Scale, Reduce, Clear};
 ghost use Rattle.inverse.specs.Inverse.{noPivot, pivotRow, inv as invOf};
 use matrix::MatrixResult;
+use matrix::ScalarResult;
 use matrix::Status;
 use matrix::kernel;
 
@@ -133,6 +134,17 @@ fn above(x: f64, y: f64) -> bool
     ensures { λ r. ⌜ r ≡ lt (absOf y) (absOf x) ⌝ }
 {
     scalar::ControlScalar::abs(x) > scalar::ControlScalar::abs(y)
+}
+
+// The inverse of a matrix of one cell, as a number. Refused with 3: no pivot.
+pub fn inverse_number(x: f64) -> ScalarResult
+    ensures { λ r. ⌜ r ≡ asScalar (reciprocal x) ⌝ }
+{
+    if no_pivot(x) {
+        ScalarResult::Refused(3)
+    } else {
+        ScalarResult::Value(1.0 * (1.0 / x))
+    }
 }
 
 fn inverse_one(x: f64) -> MatrixResult

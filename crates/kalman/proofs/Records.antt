@@ -1,18 +1,19 @@
 -- Laws of the filter record: what its tests say, and the ways out of its methods. Assumes nothing.
 use mathlib.Core.Path.{_≡_, refl, ap, ap₂, sym, _∙_}
 use mathlib.Core.List.{List, []}
-use mathlib.Core.Bool.{Bool, true, false}
+use mathlib.Core.Bool.{Bool, true, false, _&&_}
 use Prim.Native.Nat.{ℕ}
 use native.Mathlib.Omega.{arith}
+use lib.Dec.{eqb}
 use lib.Ieee.{Float}
+use borrow.Author.Tests.{eqb-true}
 use Rattle.scalar.proofs.Choice.{and-left, and-right}
 use Rattle.matrix.specs.declared.Status.{Status}
 use Rattle.matrix.specs.declared.Status.the-variants.{Done, Refused}
 use Rattle.matrix.specs.declared.MatrixResult.{MatrixResult}
-use Rattle.matrix.specs.declared.VectorResult.{VectorResult}
 use Rattle.matrix.specs.Answer.{Answer, refused, answered, mapped, where-sized, if-sized}
 use Rattle.matrix.specs.Matrix.{Vector, Matrix, mul, matvec, transpose, vecAdd}
-use Rattle.matrix.specs.Array.{cut, used, padRow, pad}
+use Rattle.matrix.specs.Array.{cut, used, usedFlat, padRow, pad}
 use Rattle.matrix.specs.Kernel.{rowsOf, flatOfRows}
 use Rattle.matrix.specs.Result.{vectorResult, asMatrix, sized, shaped, sizeOrFour}
 use Rattle.matrix.proofs.Matrices.{Shape, shape-mul}
@@ -25,8 +26,10 @@ use Rattle.inverse.proofs.Laws.{inv-shape}
 use Rattle.kalman.specs.declared.KalmanFilter.{KalmanFilter}
 use Rattle.kalman.specs.declared.Stepped.{Stepped}
 use Rattle.kalman.specs.declared.Updated.{Updated}
+use Rattle.kalman.specs.declared.Moved.{Moved}
+use Rattle.kalman.specs.declared.Found.{Found}
 use Rattle.kalman.specs.Kalman.{Estimate, Correction, propagated, gain, innovationOf, corrected, correction, update}
-use Rattle.kalman.specs.Record.{flat, modelOf, modelFrom, estimateOf, recordOf, keeping, holding, noFilter, stepped, told, newOf, wellSized, fitting}
+use Rattle.kalman.specs.Record.{flat, modelFrom, measuring, estimateIn, movedOf, foundOf, recordOf, keeping, holding, noFilter, stepped, told, newOf, wellSized, fitting}
 
 pub record Fits (n m i : ℕ) : Type 0 where
   pub states : sized n ≡ true
@@ -60,26 +63,26 @@ pub shape-propagated : (r n : ℕ) (A P Q : Matrix) → Shape r r (propagated r 
 unfolding propagated
 shape-propagated r n A P Q = shape-add r r (mul r n r (mul r n n A P) (transpose r n A)) Q
 
--- y, k, x and rows are the innovation, the gain, the state and the covariance, each in its array
-pub correction-is : (f : KalmanFilter) (z : List Float) (w : List (List Float)) {y x p : List Float} {k rows : List (List Float)}
-    → y ≡ padRow (innovationOf (f .m) (f .n) (modelOf f .h) (estimateOf f .state) (cut (f .m) z))
-    → k ≡ pad (gain (f .n) (f .m) (estimateOf f .covariance) (modelOf f .h) (used (f .m) (f .m) w))
-    → x ≡ padRow (vecAdd (f .n) (estimateOf f .state) (matvec (f .n) (f .m) (used (f .n) (f .m) k) (cut (f .m) y)))
-    → rows ≡ pad (corrected (f .n) (f .m) (used (f .n) (f .m) k) (modelOf f .h) (estimateOf f .covariance))
-    → p ≡ flatOfRows rows
-    → _≡_ {A = Updated} (record { answer = vectorResult Done y; filter = keeping f x p })
-    (told f (answered (correction (modelOf f) (estimateOf f) (cut (f .m) z) (used (f .m) (f .m) w))))
+-- y, k, s and rows are the innovation, the gain, the state and the covariance, each in its array
+pub correction-is : (n m : ℕ) (h p x z : List Float) (w : List (List Float)) {y s c : List Float} {k rows : List (List Float)}
+    → y ≡ padRow (innovationOf m n (usedFlat m n h) (cut n x) (cut m z))
+    → k ≡ pad (gain n m (usedFlat n n p) (usedFlat m n h) (used m m w))
+    → s ≡ padRow (vecAdd n (cut n x) (matvec n m (used n m k) (cut m y)))
+    → rows ≡ pad (corrected n m (used n m k) (usedFlat m n h) (usedFlat n n p))
+    → c ≡ flatOfRows rows
+    → _≡_ {A = Found} (record { answer = vectorResult Done y; x = s; p = c })
+    (foundOf x p (answered (correction (measuring n m (usedFlat m n h) []) (estimateIn n x p) (cut m z) (used m m w))))
 unfolding correction gain innovationOf
-correction-is f z w {y} {x} {p} {k} ey ek ex er ep =
-    let n = f .n in
-    let m = f .m in
-    let K = gain n m (estimateOf f .covariance) (modelOf f .h) (used m m w) in
-    let Y = innovationOf m n (modelOf f .h) (estimateOf f .state) (cut m z) in
-    let isK : used n m k ≡ K = ap (used n m) ek ∙ used-pad n m K (shape-mul n m m (mul n n m (estimateOf f .covariance) (transpose m n (modelOf f .h))) (used m m w)) in
-    let isY : cut m y ≡ Y = ap (cut m) ey ∙ cut-padRow m Y (length-vecSub m (cut m z) (matvec m n (modelOf f .h) (estimateOf f .state))) in
-    let isX : x ≡ padRow (vecAdd n (estimateOf f .state) (matvec n m K Y)) = ex ∙ ap₂ (λ (A : Matrix) (v : Vector). padRow (vecAdd n (estimateOf f .state) (matvec n m A v))) isK isY in
-    let isP : p ≡ flat (corrected n m K (modelOf f .h) (estimateOf f .covariance)) = ep ∙ ap flatOfRows (er ∙ ap (λ (A : Matrix). pad (corrected n m A (modelOf f .h) (estimateOf f .covariance))) isK) in
-    λ i. record { answer = vectorResult Done (ey i); filter = keeping f (isX i) (isP i) }
+correction-is n m h p x z w {y} {s} {c} {k} ey ek es er ec =
+    let P = usedFlat n n p in
+    let H = usedFlat m n h in
+    let K = gain n m P H (used m m w) in
+    let Y = innovationOf m n H (cut n x) (cut m z) in
+    let isK : used n m k ≡ K = ap (used n m) ek ∙ used-pad n m K (shape-mul n m m (mul n n m P (transpose m n H)) (used m m w)) in
+    let isY : cut m y ≡ Y = ap (cut m) ey ∙ cut-padRow m Y (length-vecSub m (cut m z) (matvec m n H (cut n x))) in
+    let isS : s ≡ padRow (vecAdd n (cut n x) (matvec n m K Y)) = es ∙ ap₂ (λ (A : Matrix) (v : Vector). padRow (vecAdd n (cut n x) (matvec n m A v))) isK isY in
+    let isC : c ≡ flat (corrected n m K H P) = ec ∙ ap flatOfRows (er ∙ ap (λ (A : Matrix). pad (corrected n m A H P)) isK) in
+    λ i. record { answer = vectorResult Done (ey i); x = isS i; p = isC i }
 
 -- what the case of a result says of the answer
 pub done-not-refused : {k : ℕ} → _≡_ {A = Status} Done (Refused k) → ⊥
@@ -104,32 +107,37 @@ module _ (n : ℕ) (A : Matrix) (w : MatrixResult) (e : w ≡ asMatrix (inv n A)
       go (refused j) p = let z : _≡_ {A = Status} (Refused j) (Refused k) = sym (case-of (refused j) p) ∙ h in p ∙ ap refused cc
       go (answered B) p = absurd (done-not-refused (sym (case-of (answered B) p) ∙ h))
 
--- the two ways out of an update, by the inversion's result w
-abbrev innovationCovariance : KalmanFilter → Matrix
-innovationCovariance f = propagated (f .m) (f .n) (modelOf f .h) (estimateOf f .covariance) (modelOf f .r)
+-- the two ways out of an update, by what the inversion answers
+module _ (n m : ℕ) (H R : Matrix) (e : Estimate) (z : Vector) where
+  pub update-answered : {W : Matrix} → inv m (propagated m n H (e .covariance) R) ≡ answered W
+      → update (measuring n m H R) e z ≡ answered (correction (measuring n m H []) e z W)
+  unfolding update correction
+  update-answered q = ap (mapped (correction (measuring n m H R) e z)) q
 
-module _ (f : KalmanFilter) (z : Vector) (w : MatrixResult) (e : w ≡ asMatrix (inv (f .m) (innovationCovariance f))) where
-  pub update-answered : {rows : List (List Float)} → w .status ≡ Done → rows ≡ w .rows
-      → told f (answered (correction (modelOf f) (estimateOf f) z (used (f .m) (f .m) rows))) ≡ told f (update (modelOf f) (estimateOf f) z)
-  unfolding update
-  update-answered h q =
-      ap (λ (a : List (List Float)). told f (answered (correction (modelOf f) (estimateOf f) z (used (f .m) (f .m) a)))) q
-      ∙ ap (λ (a : Answer Matrix). told f (mapped (correction (modelOf f) (estimateOf f) z) a)) (sym (was-answered (f .m) (innovationCovariance f) w e h))
+  pub update-refused : {k : ℕ} → inv m (propagated m n H (e .covariance) R) ≡ refused k → update (measuring n m H R) e z ≡ refused k
+  unfolding update correction
+  update-refused q = ap (mapped (correction (measuring n m H R) e z)) q
 
-  pub update-refused : {k : ℕ} {v : VectorResult} → w .status ≡ Refused k → v ≡ vectorResult (Refused k) (padRow [])
-      → _≡_ {A = Updated} (record { answer = v; filter = f }) (told f (update (modelOf f) (estimateOf f) z))
-  unfolding update
-  update-refused h q =
-      (λ i. record { answer = q i; filter = f })
-      ∙ ap (λ (a : Answer Matrix). told f (mapped (correction (modelOf f) (estimateOf f) z) a)) (sym (was-refused (f .m) (innovationCovariance f) w e h))
+-- ---- two sizes that were tested at once
+pub both-are : (n m a b : ℕ) → eqb n a && eqb m b ≡ true → (n ≡ a) × (m ≡ b)
+both-are n m a b e = (eqb-true n a (and-left _ _ e), eqb-true m b (and-right (eqb n a) _ e))
 
--- the sizes of an update: t is the test
-pub update-sized : {t : Bool} (f : KalmanFilter) (a : Answer Correction) → t ≡ true → told f a ≡ told f (if-sized t a)
-update-sized f a h = ap (λ (b : Bool). told f (if-sized b a)) (sym h)
+-- ---- the record that a step leaves: v is what the step found
+pub step-is : (f : KalmanFilter) (t : Bool) (e : Estimate) {v : Moved} → v ≡ movedOf (f .x) (f .p) (where-sized t e)
+    → _≡_ {A = Stepped} (record { answer = v .answer; filter = keeping f (v .x) (v .p) }) (stepped f (where-sized t (holding f e)))
+step-is f t e q = (λ i. record { answer = q i .answer; filter = keeping f (q i .x) (q i .p) }) ∙ by t
+  where
+    by : (b : Bool) → _≡_ {A = Stepped} (record { answer = movedOf (f .x) (f .p) (where-sized b e) .answer; filter = keeping f (movedOf (f .x) (f .p) (where-sized b e) .x) (movedOf (f .x) (f .p) (where-sized b e) .p) }) (stepped f (where-sized b (holding f e)))
+    by true = refl
+    by false = refl
 
-pub update-unsized : {t : Bool} (f : KalmanFilter) (a : Answer Correction) {v : VectorResult} → t ≡ false → v ≡ vectorResult (Refused 1) (padRow [])
-    → _≡_ {A = Updated} (record { answer = v; filter = f }) (told f (if-sized t a))
-update-unsized f a h q = (λ i. record { answer = q i; filter = f }) ∙ ap (λ (b : Bool). told f (if-sized b a)) (sym h)
+pub told-is : (f : KalmanFilter) (a : Answer Correction) {v : Found} → v ≡ foundOf (f .x) (f .p) a
+    → _≡_ {A = Updated} (record { answer = v .answer; filter = keeping f (v .x) (v .p) }) (told f a)
+told-is f a q = (λ i. record { answer = q i .answer; filter = keeping f (q i .x) (q i .p) }) ∙ by a
+  where
+    by : (b : Answer Correction) → _≡_ {A = Updated} (record { answer = foundOf (f .x) (f .p) b .answer; filter = keeping f (foundOf (f .x) (f .p) b .x) (foundOf (f .x) (f .p) b .p) }) (told f b)
+    by (refused k) = refl
+    by (answered o) = refl
 
 -- ---- a filter made of arrays of rows
 

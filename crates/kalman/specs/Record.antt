@@ -16,6 +16,8 @@ use Rattle.kalman.specs.declared.KalmanFilter.{KalmanFilter}
 use Rattle.kalman.specs.declared.Stepped.{Stepped}
 use Rattle.kalman.specs.declared.Updated.{Updated}
 use Rattle.kalman.specs.declared.UpdatedOne.{UpdatedOne}
+use Rattle.kalman.specs.declared.Moved.{Moved}
+use Rattle.kalman.specs.declared.Found.{Found}
 use Rattle.kalman.specs.Kalman.{Model, Estimate, Correction, predict, update, tracker, atStart}
 
 -- ---- what a record holds
@@ -106,6 +108,28 @@ predictOf f u k = stepped f (where-sized (fitting (f .n) (f .m) (f .i) (f .i) k)
 abbrev pub told : KalmanFilter → Answer Correction → Updated
 told f (refused k) = record { answer = asVector (refused k); filter = f }
 told f (answered o) = record { answer = asVector (answered (o .innovation)); filter = holding f (o .estimate) }
+
+-- the parts of a model that a prediction reads
+abbrev pub moving : ℕ → ℕ → Matrix → Matrix → Matrix → Model
+moving n i A B Q = record { n = n; m = 0; i = i; a = A; b = B; h = []; q = Q; r = [] }
+
+-- the parts of a model that an update reads
+abbrev pub measuring : ℕ → ℕ → Matrix → Matrix → Model
+measuring n m H R = record { n = n; m = m; i = 0; a = []; b = []; h = H; q = []; r = R }
+
+-- the estimate of n states in a record's numbers x and p
+abbrev pub estimateIn : ℕ → List Float → List Float → Estimate
+estimateIn n x p = record { state = cut n x; covariance = usedFlat n n p }
+
+-- what a prediction finds: a refusal leaves x and p
+abbrev pub movedOf : List Float → List Float → Answer Estimate → Moved
+movedOf x p (refused k) = record { answer = Refused k; x = x; p = p }
+movedOf x p (answered e) = record { answer = Done; x = padRow (e .state); p = flat (e .covariance) }
+
+-- what an update finds
+abbrev pub foundOf : List Float → List Float → Answer Correction → Found
+foundOf x p (refused k) = record { answer = asVector (refused k); x = x; p = p }
+foundOf x p (answered o) = record { answer = asVector (answered (o .innovation)); x = padRow (o .estimate .state); p = flat (o .estimate .covariance) }
 
 abbrev pub updateOf : KalmanFilter → List Float → ℕ → Updated
 updateOf f z k = told f (if-sized (fitting (f .n) (f .m) (f .i) (f .m) k) (update (modelOf f) (estimateOf f) (cut (f .m) z)))

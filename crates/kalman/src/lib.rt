@@ -2,13 +2,15 @@
 // and hands back its answer and the record that it leaves; a refusal leaves it unchanged.
 ghost use mathlib.Core.Path.{_≡_};
 ghost use mathlib.Core.Bool.{true};
-ghost use Rattle.matrix.specs.Answer.{answered};
+ghost use mathlib.Core.List.{[], _∷_};
+ghost use Rattle.matrix.specs.Answer.{refused, answered, where-sized, if-sized};
 ghost use Rattle.matrix.specs.Matrix.{vecAdd, matvec};
 ghost use Rattle.matrix.specs.Array.{cut, used, usedFlat, padRow, pad};
 ghost use Rattle.matrix.specs.Result.{sized, asMatrix};
 ghost use Rattle.inverse.specs.Inverse.{inv as invOf};
-ghost use Rattle.kalman.specs.Kalman.{propagated as propagatedOf, gain as gainOf, innovationOf, corrected as correctedOf, correction, update as updateOfModel};
-ghost use Rattle.kalman.specs.Record.{modelOf, modelFrom, estimateOf, noFilter, newOf, trackerOf, wellSized, fitting, told, stateOf, covarianceOf, predictOf, resetOf, updateOf, updateOneOf};
+ghost use Rattle.inverse.specs.Two.{oneByOne};
+ghost use Rattle.kalman.specs.Kalman.{propagated as propagatedOf, gain as gainOf, innovationOf, corrected as correctedOf, correction, predict as predictOfModel, update as updateOfModel};
+ghost use Rattle.kalman.specs.Record.{flat, modelFrom, moving, measuring, estimateIn, movedOf, foundOf, noFilter, newOf, trackerOf, wellSized, fitting, stateOf, covarianceOf, predictOf, resetOf, updateOf, updateOneOf};
 use matrix::MatrixResult;
 use matrix::ScalarResult;
 use matrix::Status;
@@ -47,6 +49,20 @@ pub struct Updated {
 pub struct UpdatedOne {
     pub answer: ScalarResult,
     pub filter: KalmanFilter,
+}
+
+// What a prediction finds: its answer, and the state and the covariance that it leaves.
+pub struct Moved {
+    pub answer: Status,
+    pub x: [f64; 4],
+    pub p: [f64; 16],
+}
+
+// What an update finds.
+pub struct Found {
+    pub answer: VectorResult,
+    pub x: [f64; 4],
+    pub p: [f64; 16],
 }
 
 // ---- the parts of a step, on the used parts of flat rows
@@ -164,43 +180,189 @@ fn corrected<'a>(
     kernel::product(&rest, &pm, n, n, n)
 }
 
-// The update that the inverted innovation covariance w leads to.
-fn corrected_by(f: KalmanFilter, z: [f64; 4], w: [[f64; 4]; 4]) -> Updated
-    requires { ⌜ (sized (f .n) ≡ true) × (sized (f .m) ≡ true) ⌝ }
-    ensures { λ r. ⌜ r ≡ told f (answered (correction (modelOf f) (estimateOf f) (cut (f .m) z) (used (f .m) (f .m) w))) ⌝ }
+// A refused update.
+fn unchanged<'a>(number: u8, x: &'a [f64; 4], p: &'a [f64; 16]) -> Found
+    ensures { λ v. ⌜ v ≡ foundOf (now (x .entry)) (now (p .entry)) (refused number) ⌝ }
 {
-    let n = f.n;
-    let m = f.m;
-    let y = innovation(&f.h, &f.x, z, m, n);
-    let k = gain(&f.p, &f.h, &w, n, m);
-    let x = corrected_state(&f.x, &k, &y, n, m);
-    let rows = corrected(&k, &f.h, &f.p, n, m);
-    let p = kernel::to_flat(&rows);
-    let mut next = f;
-    next.x = x;
-    next.p = p;
-    Updated {
+    Found {
+        answer: matrix::vector_refused(number),
+        x: *x,
+        p: *p,
+    }
+}
+
+// What the inverted innovation covariance w leads to.
+fn corrected_by<'a>(
+    h: &'a [f64; 16],
+    p: &'a [f64; 16],
+    x: &'a [f64; 4],
+    z: &'a [f64; 4],
+    w: &'a [[f64; 4]; 4],
+    n: usize,
+    m: usize,
+) -> Found
+    requires { ⌜ (sized n ≡ true) × (sized m ≡ true) ⌝ }
+    ensures { λ v. ⌜ v ≡ foundOf (now (x .entry)) (now (p .entry)) (answered (correction (measuring n m (usedFlat m n (now (h .entry))) []) (estimateIn n (now (x .entry)) (now (p .entry))) (cut m (now (z .entry))) (used m m (now (w .entry))))) ⌝ }
+{
+    let y = innovation(h, x, *z, m, n);
+    let k = gain(p, h, w, n, m);
+    let state = corrected_state(x, &k, &y, n, m);
+    let rows = corrected(&k, h, p, n, m);
+    let covariance = kernel::to_flat(&rows);
+    Found {
         answer: VectorResult {
             status: Status::Done,
             cells: y,
         },
-        filter: next,
+        x: state,
+        p: covariance,
     }
 }
 
-// The update where all sizes are right.
-fn updated_filter(f: KalmanFilter, z: [f64; 4]) -> Updated
-    requires { ⌜ (sized (f .n) ≡ true) × (sized (f .m) ≡ true) ⌝ }
-    ensures { λ r. ⌜ r ≡ told f (updateOfModel (modelOf f) (estimateOf f) (cut (f .m) z)) ⌝ }
+// What an update finds where all sizes are right.
+fn found_any<'a>(
+    h: &'a [f64; 16],
+    p: &'a [f64; 16],
+    r: &'a [f64; 16],
+    x: &'a [f64; 4],
+    z: &'a [f64; 4],
+    n: usize,
+    m: usize,
+) -> Found
+    requires { ⌜ (sized n ≡ true) × (sized m ≡ true) ⌝ }
+    ensures { λ v. ⌜ v ≡ foundOf (now (x .entry)) (now (p .entry)) (updateOfModel (measuring n m (usedFlat m n (now (h .entry))) (usedFlat m m (now (r .entry)))) (estimateIn n (now (x .entry)) (now (p .entry))) (cut m (now (z .entry)))) ⌝ }
 {
-    let w = inverted(&f.h, &f.p, &f.r, f.m, f.n);
+    let w = inverted(h, p, r, m, n);
     let status = w.status;
     match status {
-        Status::Done => corrected_by(f, z, matrix::rows_of(w)),
-        Status::Refused(number) => Updated {
-            answer: matrix::vector_refused(number),
-            filter: f,
+        Status::Done => {
+            let rows = matrix::rows_of(w);
+            corrected_by(h, p, x, z, &rows, n, m)
+        }
+        Status::Refused(number) => unchanged(number, x, p),
+    }
+}
+
+// ---- two states, one input and one measurement, straight-line: every number is read where it stands
+
+// A x + B u
+fn state_two<'a>(a: &'a [f64; 16], b: &'a [f64; 16], x: &'a [f64; 4], u: &'a [f64; 4]) -> [f64; 4]
+    ensures { λ v. ⌜ v ≡ padRow (vecAdd 2 (matvec 2 2 (usedFlat 2 2 (now (a .entry))) (cut 2 (now (x .entry)))) (matvec 2 1 (usedFlat 2 1 (now (b .entry))) (cut 1 (now (u .entry))))) ⌝ }
+{
+    let x0 = x[0];
+    let x1 = x[1];
+    let v = u[0];
+    let y0 = (0.0 + a[0] * x0 + a[1] * x1) + (0.0 + b[0] * v);
+    let y1 = (0.0 + a[4] * x0 + a[5] * x1) + (0.0 + b[4] * v);
+    [y0, y1, 0.0, 0.0]
+}
+
+// A P Aᵀ + Q
+fn covariance_two<'a>(a: &'a [f64; 16], p: &'a [f64; 16], q: &'a [f64; 16]) -> [f64; 16]
+    ensures { λ v. ⌜ v ≡ flat (propagatedOf 2 2 (usedFlat 2 2 (now (a .entry))) (usedFlat 2 2 (now (p .entry))) (usedFlat 2 2 (now (q .entry)))) ⌝ }
+{
+    let a0 = a[0];
+    let a1 = a[1];
+    let b0 = a[4];
+    let b1 = a[5];
+    let s0 = 0.0 + a0 * p[0] + a1 * p[4];
+    let s1 = 0.0 + a0 * p[1] + a1 * p[5];
+    let t0 = 0.0 + b0 * p[0] + b1 * p[4];
+    let t1 = 0.0 + b0 * p[1] + b1 * p[5];
+    let c0 = (0.0 + s0 * a0 + s1 * a1) + q[0];
+    let c1 = (0.0 + s0 * b0 + s1 * b1) + q[1];
+    let d0 = (0.0 + t0 * a0 + t1 * a1) + q[4];
+    let d1 = (0.0 + t0 * b0 + t1 * b1) + q[5];
+    [
+        c0,
+        c1,
+        0.0,
+        0.0,
+        d0,
+        d1,
+        0.0,
+        0.0,
+        0.0,
+        0.0,
+        0.0,
+        0.0,
+        0.0,
+        0.0,
+        0.0,
+        0.0,
+    ]
+}
+
+// H P Hᵀ + R
+fn innovation_variance<'a>(h: &'a [f64; 16], p: &'a [f64; 16], r: &'a [f64; 16]) -> f64
+    ensures { λ v. ⌜ oneByOne v ≡ propagatedOf 1 2 (usedFlat 1 2 (now (h .entry))) (usedFlat 2 2 (now (p .entry))) (usedFlat 1 1 (now (r .entry))) ⌝ }
+{
+    let h0 = h[0];
+    let h1 = h[1];
+    let s0 = 0.0 + h0 * p[0] + h1 * p[4];
+    let s1 = 0.0 + h0 * p[1] + h1 * p[5];
+    (0.0 + s0 * h0 + s1 * h1) + r[0]
+}
+
+// What the inverted innovation variance w leads to, with the measurement z.
+fn corrected_two<'a>(h: &'a [f64; 16], p: &'a [f64; 16], x: &'a [f64; 4], z: f64, w: f64) -> Found
+    ensures { λ v. ⌜ v ≡ foundOf (now (x .entry)) (now (p .entry)) (answered (correction (measuring 2 1 (usedFlat 1 2 (now (h .entry))) []) (estimateIn 2 (now (x .entry)) (now (p .entry))) (z ∷ []) (oneByOne w))) ⌝ }
+{
+    let h0 = h[0];
+    let h1 = h[1];
+    let y = z - (0.0 + h0 * x[0] + h1 * x[1]);
+    let k0 = 0.0 + (0.0 + p[0] * h0 + p[1] * h1) * w;
+    let k1 = 0.0 + (0.0 + p[4] * h0 + p[5] * h1) * w;
+    let s0 = 1.0 - (0.0 + k0 * h0);
+    let s1 = 0.0 - (0.0 + k0 * h1);
+    let t0 = 0.0 - (0.0 + k1 * h0);
+    let t1 = 1.0 - (0.0 + k1 * h1);
+    let c0 = 0.0 + s0 * p[0] + s1 * p[4];
+    let c1 = 0.0 + s0 * p[1] + s1 * p[5];
+    let d0 = 0.0 + t0 * p[0] + t1 * p[4];
+    let d1 = 0.0 + t0 * p[1] + t1 * p[5];
+    Found {
+        answer: VectorResult {
+            status: Status::Done,
+            cells: [y, 0.0, 0.0, 0.0],
         },
+        x: [x[0] + (0.0 + k0 * y), x[1] + (0.0 + k1 * y), 0.0, 0.0],
+        p: [
+            c0,
+            c1,
+            0.0,
+            0.0,
+            d0,
+            d1,
+            0.0,
+            0.0,
+            0.0,
+            0.0,
+            0.0,
+            0.0,
+            0.0,
+            0.0,
+            0.0,
+            0.0,
+        ],
+    }
+}
+
+// What an update finds with the measurement z.
+fn found_two<'a>(
+    h: &'a [f64; 16],
+    p: &'a [f64; 16],
+    r: &'a [f64; 16],
+    x: &'a [f64; 4],
+    z: f64,
+) -> Found
+    ensures { λ v. ⌜ v ≡ foundOf (now (x .entry)) (now (p .entry)) (updateOfModel (measuring 2 1 (usedFlat 1 2 (now (h .entry))) (usedFlat 1 1 (now (r .entry)))) (estimateIn 2 (now (x .entry)) (now (p .entry))) (z ∷ [])) ⌝ }
+{
+    let s = innovation_variance(h, p, r);
+    let inverted = inverse::inverse_number(s);
+    match inverted {
+        ScalarResult::Value(w) => corrected_two(h, p, x, z, w),
+        ScalarResult::Refused(number) => unchanged(number, x, p),
     }
 }
 
@@ -239,6 +401,82 @@ fn is_fitting(n: usize, m: usize, i: usize, asked: usize, k: usize) -> bool
     matrix::both(is_well_sized(n, m, i), asked == k)
 }
 
+// ---- a whole step, by its sizes. Only the general way takes the address of a copy: the compiler then keeps the
+// numbers of the straight-line way in registers, and a method copies its record once, field by field.
+
+// What a prediction finds with the input u of k numbers.
+fn predicted<'a>(
+    a: &'a [f64; 16],
+    b: &'a [f64; 16],
+    q: &'a [f64; 16],
+    x: &'a [f64; 4],
+    p: &'a [f64; 16],
+    u: &'a [f64; 4],
+    n: usize,
+    m: usize,
+    i: usize,
+    k: usize,
+) -> Moved
+    ensures { λ v. ⌜ v ≡ movedOf (now (x .entry)) (now (p .entry)) (where-sized (fitting n m i i k) (predictOfModel (moving n i (usedFlat n n (now (a .entry))) (usedFlat n i (now (b .entry))) (usedFlat n n (now (q .entry)))) (estimateIn n (now (x .entry)) (now (p .entry))) (cut i (now (u .entry))))) ⌝ }
+{
+    if is_fitting(n, m, i, i, k) {
+        if matrix::both(n == 2, i == 1) {
+            Moved {
+                answer: Status::Done,
+                x: state_two(a, b, x, u),
+                p: covariance_two(a, p, q),
+            }
+        } else {
+            let am = *a;
+            let bm = *b;
+            let qm = *q;
+            let xm = *x;
+            let pm = *p;
+            let rows = propagated(&am, &pm, &qm, n, n);
+            Moved {
+                answer: Status::Done,
+                x: predicted_state(&am, &bm, &xm, u, n, i),
+                p: kernel::to_flat(&rows),
+            }
+        }
+    } else {
+        Moved {
+            answer: Status::Refused(1),
+            x: *x,
+            p: *p,
+        }
+    }
+}
+
+// What an update finds with the measurement z of k numbers.
+fn measured<'a>(
+    h: &'a [f64; 16],
+    p: &'a [f64; 16],
+    r: &'a [f64; 16],
+    x: &'a [f64; 4],
+    z: &'a [f64; 4],
+    n: usize,
+    m: usize,
+    i: usize,
+    k: usize,
+) -> Found
+    ensures { λ v. ⌜ v ≡ foundOf (now (x .entry)) (now (p .entry)) (if-sized (fitting n m i m k) (updateOfModel (measuring n m (usedFlat m n (now (h .entry))) (usedFlat m m (now (r .entry)))) (estimateIn n (now (x .entry)) (now (p .entry))) (cut m (now (z .entry))))) ⌝ }
+{
+    if is_fitting(n, m, i, m, k) {
+        if matrix::both(n == 2, m == 1) {
+            found_two(h, p, r, x, z[0])
+        } else {
+            let hm = *h;
+            let pm = *p;
+            let rm = *r;
+            let xm = *x;
+            found_any(&hm, &pm, &rm, &xm, z, n, m)
+        }
+    } else {
+        unchanged(1, x, p)
+    }
+}
+
 impl KalmanFilter {
     // The state and its covariance one step on, with the input u of k numbers. Refused with 1: a size of the
     // record, or k is not i.
@@ -246,24 +484,30 @@ impl KalmanFilter {
         ensures { λ r. ⌜ r ≡ predictOf self u k ⌝ }
     {
         let n = self.n;
+        let m = self.m;
         let i = self.i;
-        if is_fitting(n, self.m, i, i, k) {
-            let x = predicted_state(&self.a, &self.b, &self.x, &u, n, i);
-            let rows = propagated(&self.a, &self.p, &self.q, n, n);
-            let p = kernel::to_flat(&rows);
-            let mut moved = self;
-            moved.x = x;
-            moved.p = p;
-            Stepped {
-                answer: Status::Done,
-                filter: moved,
-            }
-        } else {
-            Stepped {
-                answer: Status::Refused(1),
-                filter: self,
-            }
-        }
+        let next = predicted(&self.a, &self.b, &self.q, &self.x, &self.p, &u, n, m, i, k);
+        let a = self.a;
+        let b = self.b;
+        let h = self.h;
+        let q = self.q;
+        let r = self.r;
+        let x = next.x;
+        let p = next.p;
+        let filter = KalmanFilter {
+            n,
+            m,
+            i,
+            a,
+            b,
+            h,
+            q,
+            r,
+            x,
+            p,
+        };
+        let answer = next.answer;
+        Stepped { answer, filter }
     }
 
     // The state and its covariance corrected by the measurement z of k numbers; the innovation is z less H
@@ -272,14 +516,31 @@ impl KalmanFilter {
     pub fn update(self, z: [f64; 4], k: usize) -> Updated
         ensures { λ r. ⌜ r ≡ updateOf self z k ⌝ }
     {
-        if is_fitting(self.n, self.m, self.i, self.m, k) {
-            updated_filter(self, z)
-        } else {
-            Updated {
-                answer: matrix::vector_refused(1),
-                filter: self,
-            }
-        }
+        let n = self.n;
+        let m = self.m;
+        let i = self.i;
+        let next = measured(&self.h, &self.p, &self.r, &self.x, &z, n, m, i, k);
+        let a = self.a;
+        let b = self.b;
+        let h = self.h;
+        let q = self.q;
+        let r = self.r;
+        let x = next.x;
+        let p = next.p;
+        let filter = KalmanFilter {
+            n,
+            m,
+            i,
+            a,
+            b,
+            h,
+            q,
+            r,
+            x,
+            p,
+        };
+        let answer = next.answer;
+        Updated { answer, filter }
     }
 
     // The same for one reading, m = 1: the innovation as a number.

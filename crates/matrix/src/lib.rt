@@ -130,7 +130,8 @@ pub fn is_applicable(r: usize, c: usize, n: usize) -> bool
     both(is_shape(r, c), c == n)
 }
 
-// The first c numbers of v, then +0; all four where c is no size.
+// The first c numbers of v, then +0; all four where c is no size. Each test overwrites the row: the compiler
+// then chooses number by number, without a branch, and stores the row in two halves.
 pub fn kept(v: [f64; 4], c: usize) -> [f64; 4]
     ensures { λ r. ⌜ r ≡ padRow (cut (sizeOrFour c) v) ⌝ }
 {
@@ -138,16 +139,17 @@ pub fn kept(v: [f64; 4], c: usize) -> [f64; 4]
     let x = v[1];
     let y = v[2];
     let z = v[3];
+    let mut r = [w, x, y, z];
     if c == 1 {
-        return [w, 0.0, 0.0, 0.0];
+        r = [w, 0.0, 0.0, 0.0];
     }
     if c == 2 {
-        return [w, x, 0.0, 0.0];
+        r = [w, x, 0.0, 0.0];
     }
     if c == 3 {
-        return [w, x, y, 0.0];
+        r = [w, x, y, 0.0];
     }
-    [w, x, y, z]
+    r
 }
 
 // ---- the product
