@@ -24,13 +24,13 @@ unfolding room
 room-of k n m e = leb-true (k + n) m e
 
 -- ---- what a test that was passed says
-pub vector-room : (k n m : ℕ) → sized n && room k n m ≡ true → (n ≤ 4) × (k + n ≤ m)
-vector-room k n m e = (size-of n (and-left _ _ e) .most, room-of k n m (and-right (sized n) _ e))
+pub vector-room : (k n m : ℕ) → sized n && room k n m ≡ true → (1 ≤ n) × (n ≤ 4) × (k + n ≤ m)
+vector-room k n m e = let s = size-of n (and-left _ _ e) in (s .least, s .most, room-of k n m (and-right (sized n) _ e))
 
-pub matrix-room : (k r c m : ℕ) → shaped r c && room k (r * c) m ≡ true → (r ≤ 4) × (c ≤ 4) × (k + r * c ≤ m)
+pub matrix-room : (k r c m : ℕ) → shaped r c && room k (r * c) m ≡ true → (r ≤ 4) × (1 ≤ c) × (c ≤ 4) × (k + r * c ≤ m)
 matrix-room k r c m e =
     let s = sizes-of r c (and-left _ _ e) in
-    (s .rows .most, s .cols .most, room-of k (r * c) m (and-right (shaped r c) _ e))
+    (s .rows .most, s .cols .least, s .cols .most, room-of k (r * c) m (and-right (shaped r c) _ e))
 
 -- ---- the tests are passed
 vector-fits : (k m : ℕ) {n : ℕ} → Size n → k + n ≤ m → sized n && room k n m ≡ true

@@ -13,9 +13,10 @@ use lib.Seq.{take-all, take-suc, take-suc-set, append-snoc, set-split, take-at, 
 use lib.Ieee.{Float, nan}
 use Rattle.matrix.specs.Table.{table}
 use Rattle.matrix.specs.Matrix.{Matrix, at, row}
+use Rattle.matrix.specs.Array.{cut, padRow}
 use Rattle.matrix.proofs.Tables.{table-getD}
 use Rattle.matrix.proofs.Matrices.{Shape}
-use Rattle.buffer.specs.Buffer.{joined, placed, room}
+use Rattle.buffer.specs.Buffer.{vectorAt, joined, placed, room}
 
 -- ---- room in a buffer, as the code tests it
 pub room-less : (k n m : ℕ) → n ≤ m → leb k (m - n) ≡ room k n m
@@ -62,6 +63,12 @@ pub then-placed : {k q : ℕ} (l m b : List Float) {b₁ b₂ : List Float} → 
     → b₂ ≡ placed k (l ++ m) b
 then-placed {k} {q} l m b h e p r = r ∙ ap₂ (λ (j : ℕ) (c : List Float). placed j m c) e p ∙ placed-after k l m b h
 
+-- one number more right after l, which b₁ has
+pub placed-next : (k : ℕ) (l : List Float) (x : Float) (b : List Float) {b₁ : List Float} → k + length l < length b → b₁ ≡ placed k l b → set b₁ (k + length l) x ≡ placed k (l ++ (x ∷ [])) b
+placed-next k l x b h e =
+    let long = ap length e ∙ length-placed k l b (omega arith) in
+    then-placed l (x ∷ []) b (omega arith) refl e (set-placed (k + length l) x _ (omega (arith, long)))
+
 -- m right before l
 pub placed-before : (k : ℕ) (m l b : List Float) → k + length m ≤ length b → placed k m (placed (k + length m) l b) ≡ placed k (m ++ l) b
 unfolding placed
@@ -92,11 +99,6 @@ length-rows r c A s =
     ap (λ (M : Matrix). length (joined M)) (sym (table-getD A []))
     ∙ length-joined (length A) c (λ i. row A i) (λ i h. s .cols i (subst (λ (k : ℕ). i < k) (s .rows) h))
     ∙ ap (λ (k : ℕ). k * c) (s .rows)
-
--- each number a part of its own
-pub joined-single : (n : ℕ) (f : ℕ → Float) → joined (table n (λ i. f i ∷ [])) ≡ table n f
-joined-single zero f = refl
-joined-single (suc n) f = ap (λ (t : List Float). f zero ∷ t) (joined-single n (λ i. f (suc i)))
 
 -- ---- parts of one length
 
@@ -174,3 +176,34 @@ pub copying-all : {a b l : List Float} {i : ℕ} → Copying a b i l → length 
 copying-all {a} {b} {l} {i} e h =
     let same : i ≡ length b = omega arith in
     sym (take-all i l (omega arith)) ∙ e .is ∙ ap (λ (m : ℕ). take m a) same
+
+-- ---- numbers written out
+
+-- n of the four numbers from number k on, where n is j
+pub read-out : (b : List Float) (k j : ℕ) {n : ℕ} → n ≡ j
+    → padRow (cut j (at b (k + 0) ∷ at b (k + 1) ∷ at b (k + 2) ∷ at b (k + 3) ∷ [])) ≡ padRow (vectorAt j b k)
+    → padRow (cut j (at b k ∷ at b (k + 1) ∷ at b (k + 2) ∷ at b (k + 3) ∷ [])) ≡ padRow (vectorAt n b k)
+read-out b k j e h =
+    let first : k ≡ k + 0 = omega arith in
+    ap (λ (i : ℕ). padRow (cut j (at b i ∷ at b (k + 1) ∷ at b (k + 2) ∷ at b (k + 3) ∷ []))) first ∙ h ∙ ap (λ (m : ℕ). padRow (vectorAt m b k)) (sym e)
+
+-- the first one to four numbers of v, set in b one after another
+module _ (b v : List Float) (k : ℕ) where
+  pub written : {j n : ℕ} {l : List Float} → n ≡ j → l ≡ placed k (cut j v) b → l ≡ placed k (cut n v) b
+  written e h = h ∙ ap (λ (m : ℕ). placed k (cut m v) b) (sym e)
+
+  pub write-one : k + 0 < length b → set b k (at v 0) ≡ placed k (cut 1 v) b
+  unfolding cut
+  write-one h = set-placed k (at v 0) b (omega arith)
+
+  pub write-two : k + 1 < length b → set (set b k (at v 0)) (k + 1) (at v 1) ≡ placed k (cut 2 v) b
+  unfolding cut
+  write-two h = placed-next k (cut 1 v) (at v 1) b h (write-one (omega arith))
+
+  pub write-three : k + 2 < length b → set (set (set b k (at v 0)) (k + 1) (at v 1)) (k + 2) (at v 2) ≡ placed k (cut 3 v) b
+  unfolding cut
+  write-three h = placed-next k (cut 2 v) (at v 2) b h (write-two (omega arith))
+
+  pub write-four : k + 3 < length b → set (set (set (set b k (at v 0)) (k + 1) (at v 1)) (k + 2) (at v 2)) (k + 3) (at v 3) ≡ placed k (cut 4 v) b
+  unfolding cut
+  write-four h = placed-next k (cut 3 v) (at v 3) b h (write-three (omega arith))

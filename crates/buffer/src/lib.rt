@@ -3,7 +3,8 @@
 ghost use mathlib.Core.Path.{_≡_};
 ghost use mathlib.Core.Bool.{_&&_, cond};
 ghost use Prim.Native.Nat.{_+_, _*_, _≤_};
-ghost use lib.ListN.{length};
+ghost use lib.Dec.{leb};
+ghost use lib.ListN.{length, take};
 ghost use Rattle.matrix.specs.Answer.{where-sized};
 ghost use Rattle.matrix.specs.Array.{cut, used, padRow, pad};
 ghost use Rattle.matrix.specs.Result.{sized, shaped};
@@ -37,19 +38,25 @@ fn is_matrix(k: usize, r: usize, c: usize, len: usize) -> bool
 
 // ---- numbers out of a buffer
 
+// Written out for each size: a loop of so few turns costs more than its numbers.
 fn read_vector(b: &[f64], k: usize, n: usize) -> [f64; 4]
-    requires { ⌜ (n ≤ 4) × (k + n ≤ length (now b)) ⌝ }
+    requires { ⌜ (1 ≤ n) × (n ≤ 4) × (k + n ≤ length (now b)) ⌝ }
     ensures { λ v. ⌜ v ≡ padRow (vectorAt n (now (b .entry)) k) ⌝ }
 {
-    let mut out = [0.0; 4];
-    for i in 0..n {
-        out[i] = b[k + i];
+    if n == 1 {
+        return [b[k], 0.0, 0.0, 0.0];
     }
-    out
+    if n == 2 {
+        return [b[k], b[k + 1], 0.0, 0.0];
+    }
+    if n == 3 {
+        return [b[k], b[k + 1], b[k + 2], 0.0];
+    }
+    [b[k], b[k + 1], b[k + 2], b[k + 3]]
 }
 
 fn read_matrix(b: &[f64], k: usize, r: usize, c: usize) -> [[f64; 4]; 4]
-    requires { ⌜ (r ≤ 4) × (c ≤ 4) × (k + r * c ≤ length (now b)) ⌝ }
+    requires { ⌜ (r ≤ 4) × (1 ≤ c) × (c ≤ 4) × (k + r * c ≤ length (now b)) ⌝ }
     ensures { λ m. ⌜ m ≡ pad (matrixAt r c (now (b .entry)) k) ⌝ }
 {
     let mut out = [[0.0; 4]; 4];
@@ -84,16 +91,26 @@ pub fn matrix_at(b: &[f64], k: usize, r: usize, c: usize) -> [[f64; 4]; 4]
 // ---- numbers into a buffer, from number k on; every other number stays
 
 fn write_vector(b: &mut [f64], k: usize, v: [f64; 4], n: usize)
-    requires { ⌜ (n ≤ 4) × (k + n ≤ length (now b)) ⌝ }
+    requires { ⌜ (1 ≤ n) × (n ≤ 4) × (k + n ≤ length (now b)) ⌝ }
     ensures { λ r. ⌜ now (b .exit) ≡ placed k (cut n v) (now (b .entry)) ⌝ }
 {
-    for i in 0..n {
-        b[k + i] = v[i];
+    b[k] = v[0];
+    if n == 1 {
+        return;
     }
+    b[k + 1] = v[1];
+    if n == 2 {
+        return;
+    }
+    b[k + 2] = v[2];
+    if n == 3 {
+        return;
+    }
+    b[k + 3] = v[3];
 }
 
 fn write_matrix(b: &mut [f64], k: usize, m: &[[f64; 4]; 4], r: usize, c: usize)
-    requires { ⌜ (r ≤ 4) × (c ≤ 4) × (k + r * c ≤ length (now b)) ⌝ }
+    requires { ⌜ (r ≤ 4) × (1 ≤ c) × (c ≤ 4) × (k + r * c ≤ length (now b)) ⌝ }
     ensures { λ u. ⌜ now (b .exit) ≡ placed k (joined (used r c (now (m .entry)))) (now (b .entry)) ⌝ }
 {
     for i in 0..r {
@@ -116,5 +133,17 @@ pub fn put_matrix(b: &mut [f64], k: usize, m: &[[f64; 4]; 4], r: usize, c: usize
 {
     if is_matrix(k, r, c, b.len()) {
         write_matrix(b, k, m, r, c);
+    }
+}
+
+// The first numbers of from, as many as to holds; where from holds fewer, to stays as it was.
+pub fn copy_front(to: &mut [f64], from: &[f64])
+    ensures { λ r. ⌜ now (to .exit) ≡ cond (leb (length (now (to .entry))) (length (now (from .entry)))) (take (length (now (to .entry))) (now (from .entry))) (now (to .entry)) ⌝ }
+{
+    let n = to.len();
+    if n <= from.len() {
+        for i in 0..n {
+            to[i] = from[i];
+        }
     }
 }

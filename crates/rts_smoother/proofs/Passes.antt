@@ -7,26 +7,23 @@ use native.Mathlib.Omega.{arith}
 use lib.ListN.{length, drop, drop-of-length-le}
 use lib.Seq.{drop-cons}
 use lib.Ieee.{Float}
+use Rattle.matrix.specs.declared.Status.{Status}
 use Rattle.matrix.specs.declared.Status.the-variants.{Done, Refused}
-use Rattle.matrix.specs.declared.MatrixResult.{MatrixResult}
 use Rattle.matrix.specs.Answer.{Answer, refused, answered, mapped}
 use Rattle.matrix.specs.Table.{table}
 use Rattle.matrix.specs.Matrix.{Vector, Matrix, at, mat}
 use Rattle.matrix.specs.Array.{cut, used, padRow, pad}
-use Rattle.matrix.specs.Result.{asMatrix}
 use Rattle.matrix.proofs.Answers.{differ, same-answer}
 use Rattle.matrix.proofs.Tables.{length-table, getD-table}
-use Rattle.matrix.proofs.Matrices.{shape-mul}
 use Rattle.matrix.proofs.Vectors.{length-vecAdd}
 use Rattle.matrix.proofs.Kernels.{shape-add}
-use Rattle.inverse.specs.Inverse.{inv}
-use Rattle.kalman.specs.Kalman.{Estimate, gain}
-use Rattle.kalman.proofs.Records.{was-answered, was-refused}
+use Rattle.kalman.specs.Kalman.{Estimate}
+use Rattle.kalman.proofs.Records.{done-not-refused}
 use Rattle.rts_smoother.specs.Backward.{Results, listed, in-front, back, pass}
 use Rattle.rts_smoother.specs.Smoother.{Slot, slotGain, movedState, movedCovariance, move, smoothed}
 use Rattle.buffer.specs.Buffer.{joined, placed}
 use Rattle.rts_smoother.specs.Buffer.{pairLength, stride, pairAt, slotFrom, slotAt, pairNumbers}
-use Rattle.rts_smoother.specs.Record.{estimate, statusOf, Passed}
+use Rattle.rts_smoother.specs.Record.{estimate, statusOf, Stepped, Passed}
 use Rattle.rts_smoother.proofs.Backward.{back-step, back-stop, refused-from}
 use Rattle.buffer.proofs.Places.{ends-within}
 use Rattle.buffer.proofs.Places.{placed-none, placed-before}
@@ -46,19 +43,14 @@ pair-numbers : {n : ℕ} {e : Estimate} {x : List Float} {p : List (List Float)}
 unfolding pairNumbers
 pair-numbers {e = e} h ex ep = ap₂ (λ (v : Vector) (A : Matrix). v ++ joined A) (cut-of (e .state) (h .state) ex) (used-of (h .covariance) ep)
 
--- ---- the gain of a slot, by the inversion's result w
-module _ (n : ℕ) (F : Matrix) (s : Slot) {w : MatrixResult} (e : w ≡ asMatrix (inv n (s .predicted .covariance))) where
-  pub gain-answered : {rows g : List (List Float)} → w .status ≡ Done → rows ≡ w .rows → g ≡ pad (gain n n (s .filtered .covariance) F (used n n rows))
-      → slotGain n F s ≡ answered (used n n g)
-  unfolding slotGain gain
-  gain-answered {rows} {g} h q eg =
-      ap (mapped (gain n n (s .filtered .covariance) F))
-      (was-answered n (s .predicted .covariance) w e h ∙ ap (λ (a : List (List Float)). answered (used n n a)) (sym q))
-      ∙ ap answered (sym (used-of (shape-mul n n n _ _) eg))
+-- ---- a status that tells of an answer a
+answered-of : {A : Type 0} (a : Answer A) {t : Status} → t ≡ statusOf a → t ≡ Done → (r : A) × (a ≡ answered r)
+answered-of (refused k) e d = absurd (done-not-refused (sym d ∙ e))
+answered-of (answered r) e d = (r, refl)
 
-  pub gain-refused : {k : ℕ} → w .status ≡ Refused k → slotGain n F s ≡ refused k
-  unfolding slotGain
-  gain-refused h = ap (mapped (gain n n (s .filtered .covariance) F)) (was-refused n (s .predicted .covariance) w e h)
+refused-of : {A : Type 0} (a : Answer A) {t : Status} {k : ℕ} → t ≡ statusOf a → t ≡ Refused k → (j : ℕ) × (a ≡ refused j) × (_≡_ {A = Status} (Refused j) (Refused k))
+refused-of (refused j) e d = (j, refl, sym e ∙ d)
+refused-of (answered r) e d = absurd (done-not-refused (sym e ∙ d))
 
 module _ (n : ℕ) (F : Matrix) (b : List Float) (c : ℕ) where
   abbrev pub slotsOf : List Slot
@@ -125,37 +117,39 @@ module _ (n : ℕ) (F : Matrix) (b : List Float) (c : ℕ) where
       behind : drop (suc j) slotsOf ≡ slotAt n b k ∷ drop (suc k) slotsOf
       behind = ap (λ (m : ℕ). drop m slotsOf) ej ∙ from-slot k (t .below)
 
-      pub going-more : {G : Matrix} {y z : List Float} {q : List (List Float)} → slotGain n F s ≡ answered G
-          → y ≡ padRow (movedState n s G (cut n x)) → q ≡ pad (movedCovariance n s G (used n n p))
-          → z ≡ placed (k * pairLength n) (pairNumbers (estimate (cut n x) (used n n p))) o → length z ≡ length o
-          → Going o₀ j y q z
-      unfolding move
-      going-more {G} eg ey eq ez l =
-          let r = t .results in
-          record {
-            below = omega (arith, t .below);
-            fits = t .fits;
-            results = in-front (move n (slotAt n b j) G (r .first)) r;
-            is =
-                ap (back start (slotGain n F) (move n) (slotAt n b j)) behind
-                ∙ back-step start (slotGain n F) (move n) (slotAt n b j) (slotAt n b k) (drop (suc k) slotsOf) (t .is) (ap (slotGain n F) (sym es) ∙ eg);
-            paired = paired-move n (slotAt n b j) G (r .first);
-            state = ey ∙ ap₂ (λ (u : Slot) (v : Vector). padRow (movedState n u G v)) es (cut-of (r .first .state) (t .paired .state) (t .state));
-            covariance = eq ∙ ap₂ (λ (u : Slot) (A : Matrix). pad (movedCovariance n u G A)) es (used-of (t .paired .covariance) (t .covariance));
-            numbers = put-front refl ez ∙ ap (λ (m : ℕ). placed (m * pairLength n) (joined (map pairNumbers (listed r))) o₀) (sym ej);
-            long = l ∙ t .long;
-          }
+      -- its part of the pass is answered, or refused
+      module _ {y : List Float} {q : List (List Float)} {u : Status} (e : Stepped n F s x p y q u) where
+        pub going-more : {z : List Float} → u ≡ Done → z ≡ placed (k * pairLength n) (pairNumbers (estimate (cut n x) (used n n p))) o → length z ≡ length o
+            → Going o₀ j y q z
+        unfolding move
+        going-more d ez l =
+            let r = t .results in
+            let (G, eg) = answered-of (slotGain n F s) (e .told) d in
+            record {
+              below = omega (arith, t .below);
+              fits = t .fits;
+              results = in-front (move n (slotAt n b j) G (r .first)) r;
+              is =
+                  ap (back start (slotGain n F) (move n) (slotAt n b j)) behind
+                  ∙ back-step start (slotGain n F) (move n) (slotAt n b j) (slotAt n b k) (drop (suc k) slotsOf) (t .is) (ap (slotGain n F) (sym es) ∙ eg);
+              paired = paired-move n (slotAt n b j) G (r .first);
+              state = e .state G eg ∙ ap₂ (λ (i : Slot) (v : Vector). padRow (movedState n i G v)) es (cut-of (r .first .state) (t .paired .state) (t .state));
+              covariance = e .covariance G eg ∙ ap₂ (λ (i : Slot) (A : Matrix). pad (movedCovariance n i G A)) es (used-of (t .paired .covariance) (t .covariance));
+              numbers = put-front refl ez ∙ ap (λ (m : ℕ). placed (m * pairLength n) (joined (map pairNumbers (listed r))) o₀) (sym ej);
+              long = l ∙ t .long;
+            }
 
-      pub going-stop : {m : ℕ} {z : List Float} → slotGain n F s ≡ refused m → Passed (smoothed n F slotsOf) o₀ z (Refused m)
-      unfolding smoothed pass
-      going-stop {m} eg =
-          let e : backFrom j ≡ refused m =
-          ap (back start (slotGain n F) (move n) (slotAt n b j)) behind
-          ∙ back-stop start (slotGain n F) (move n) (slotAt n b j) (slotAt n b k) (drop (suc k) slotsOf) (t .is) (ap (slotGain n F) (sym es) ∙ eg) in
-          let a : smoothed n F slotsOf ≡ refused m =
-          refused-from start (slotGain n F) (move n) j slotsOf (omega (arith, t .below, length-table c (λ i. slotAt n b i)))
-          (ap (pass start (slotGain n F) (move n)) (from-slot j (omega (arith, t .below))) ∙ ap (mapped listed) e) in
-          record { told = ap statusOf (sym a); pairs = λ r h. absurd (differ (sym a ∙ h)) }
+        pub going-stop : {m : ℕ} {z : List Float} → u ≡ Refused m → Passed (smoothed n F slotsOf) o₀ z (Refused m)
+        unfolding smoothed pass
+        going-stop {m} {z} d =
+            let (i, eg, same) = refused-of (slotGain n F s) (e .told) d in
+            let stop : backFrom j ≡ refused i =
+            ap (back start (slotGain n F) (move n) (slotAt n b j)) behind
+            ∙ back-stop start (slotGain n F) (move n) (slotAt n b j) (slotAt n b k) (drop (suc k) slotsOf) (t .is) (ap (slotGain n F) (sym es) ∙ eg) in
+            let a : smoothed n F slotsOf ≡ refused i =
+            refused-from start (slotGain n F) (move n) j slotsOf (omega (arith, t .below, length-table c (λ i. slotAt n b i)))
+            (ap (pass start (slotGain n F) (move n)) (from-slot j (omega (arith, t .below))) ∙ ap (mapped listed) stop) in
+            record { told = sym same ∙ ap statusOf (sym a); pairs = λ r h. absurd (differ (sym a ∙ h)) }
 
     -- slot k is the first, and its pair is put
     pub going-done : {z : List Float} → k ≡ 0 → z ≡ placed 0 (pairNumbers (estimate (cut n x) (used n n p))) o → Passed (smoothed n F slotsOf) o₀ z Done

@@ -21,7 +21,7 @@ use Rattle.rts_smoother.specs.declared.RtsSmoother.{RtsSmoother}
 use Rattle.rts_smoother.specs.declared.Stored.{Stored}
 use Rattle.rts_smoother.specs.declared.CountResult.{CountResult}
 use Rattle.rts_smoother.specs.declared.CountResult.the-variants as Count
-use Rattle.rts_smoother.specs.Smoother.{Slot, smooth}
+use Rattle.rts_smoother.specs.Smoother.{Slot, slotGain, movedState, movedCovariance, smooth}
 use Rattle.buffer.specs.Buffer.{joined, placed, Left, left}
 use Rattle.rts_smoother.specs.Buffer.{pairLength, stride, dutyOf, pairNumbers, slotNumbers, outputOf, counted, buffered}
 
@@ -142,3 +142,16 @@ statusOf (answered a) = Done
 pub record Passed (a : Answer (List Estimate)) (before after : List Float) (s : Status) : Type 0 where
   pub told : s ≡ statusOf a
   pub pairs : (r : List Estimate) → a ≡ answered r → after ≡ placed 0 (joined (map pairNumbers r)) before
+
+-- a slot's part of the pass, with the next slot's smoothed pair in the arrays x and p: its status, and where it is answered its smoothed pair in y and q
+pub record Stepped (n : ℕ) (F : Matrix) (s : Slot) (x : List Float) (p : List (List Float)) (y : List Float) (q : List (List Float)) (t : Status) : Type 0 where
+  pub told : t ≡ statusOf (slotGain n F s)
+  pub state : (G : Matrix) → slotGain n F s ≡ answered G → y ≡ padRow (movedState n s G (cut n x))
+  pub covariance : (G : Matrix) → slotGain n F s ≡ answered G → q ≡ pad (movedCovariance n s G (used n n p))
+
+-- its moved state and covariance, by the pairs that the slot holds: filtered x and P, predicted y and Q
+abbrev pub stateMoved : ℕ → Vector → Vector → Matrix → Vector → Vector
+stateMoved n x y G next = movedState n (record { filtered = estimate x []; predicted = estimate y [] }) G next
+
+abbrev pub covarianceMoved : ℕ → Matrix → Matrix → Matrix → Matrix → Matrix
+covarianceMoved n P Q G next = movedCovariance n (record { filtered = estimate [] P; predicted = estimate [] Q }) G next

@@ -19,7 +19,7 @@ loop-holds : tie.Need-loop-holds Inv-loop μ-loop
 loop-holds c = rows-none _ _
 
 read-vector-requires : tie.Need-read-vector-requires Inv-loop μ-loop
-read-vector-requires c κs = (omega arith, omega (arith, ends-within {k = c .before .loop .i} (c .before .before .before .args .c) (c .loop-test .taken)))
+read-vector-requires c κs = (omega arith, omega arith, omega (arith, ends-within {k = c .before .loop .i} (c .before .before .before .args .c) (c .loop-test .taken)))
 
 loop-again : tie.Need-loop-again Inv-loop μ-loop
 loop-again c = rows-more (c .before .before .loop .inv) (omega arith) (omega arith) (c .read-vector .ensures)

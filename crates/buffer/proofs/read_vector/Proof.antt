@@ -1,35 +1,40 @@
--- `read_vector` meets its contract: the loop fills a row of +0 from the front.
+-- `read_vector` meets its contract: each case writes the row out for one size.
 use mathlib.Core.Path.{refl}
-use Prim.Native.Nat.{_+_, _-_}
 use native.Mathlib.Omega.{arith}
-use Rattle.scalar.specs.Number.{+0}
-use Rattle.matrix.specs.Matrix.{at}
-use Rattle.matrix.proofs.Tables.{Filling, filling-none, filling-more, filling-all}
+use Rattle.matrix.specs.Array.{cut}
+use Rattle.buffer.proofs.Places.{read-out}
 use Rattle.buffer.proofs.read_vector.Statement.{statement}
 use Rattle.buffer.proofs.read_vector.Tie as tie
 
-abbrev Inv-loop : tie.InvT-loop
-Inv-loop b k n out₀ i₀ out i = Filling 4 +0 (λ i. at b (k + i)) n i out
+returns : tie.Need-returns
+unfolding cut
+returns c = let s = c .before .before in read-out (s .args .b .now) (s .args .k) 1 (c .before .if1 .taken) refl
 
-abbrev μ-loop : tie.MeasureT-loop
-μ-loop b k n out₀ i₀ out i = n - i
+returns-2 : tie.Need-returns-2
+unfolding cut
+returns-2 c = let s = c .before .before .before .before in read-out (s .args .b .now) (s .args .k) 2 (c .before .before .if2 .taken) refl
 
-loop-holds : tie.Need-loop-holds Inv-loop μ-loop
-loop-holds c = filling-none _ _ _ _
+returns-3 : tie.Need-returns-3
+unfolding cut
+returns-3 c = let s = c .before .before .before .before .before .before in read-out (s .args .b .now) (s .args .k) 3 (c .before .before .before .if3 .taken) refl
 
-loop-again : tie.Need-loop-again Inv-loop μ-loop
-loop-again c = filling-more (c .before .before .loop .inv) (omega arith) (omega arith) refl
-
-returns : tie.Need-returns Inv-loop μ-loop
-returns c = filling-all (c .before .loop .inv) (omega arith)
+returns-4 : tie.Need-returns-4
+unfolding cut
+returns-4 c = let s = c .before .before .before .before .before .before .before in read-out (s .args .b .now) (s .args .k) 4 {n = s .args .n} (omega arith) refl
 
 pub read-vector-spec : {M : Type 1} → statement M
 read-vector-spec =
     tie.close
     (tie.spec
-    Inv-loop
-    μ-loop
-    loop-holds
+    (λ c. omega arith)
+    (λ c. omega arith)
+    returns
+    (λ c. omega arith)
+    (λ c. omega arith)
+    (λ c. omega arith)
+    (λ c. omega arith)
+    (λ c. omega arith)
+    returns-2
     (λ c. omega arith)
     (λ c. omega arith)
     (λ c. omega arith)
@@ -37,5 +42,17 @@ read-vector-spec =
     (λ c. omega arith)
     (λ c. omega arith)
     (λ c. omega arith)
-    loop-again
-    returns)
+    (λ c. omega arith)
+    returns-3
+    (λ c. omega arith)
+    (λ c. omega arith)
+    (λ c. omega arith)
+    (λ c. omega arith)
+    (λ c. omega arith)
+    (λ c. omega arith)
+    (λ c. omega arith)
+    (λ c. omega arith)
+    (λ c. omega arith)
+    (λ c. omega arith)
+    (λ c. omega arith)
+    returns-4)

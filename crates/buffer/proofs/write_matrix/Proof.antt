@@ -16,10 +16,10 @@ abbrev μ-loop : tie.MeasureT-loop
 μ-loop b₀ k m r c i₀ b i = r - i
 
 loop-holds : tie.Need-loop-holds Inv-loop μ-loop
-loop-holds c = putting-none _ _ _ _ _ (c .before .pre .2) (λ j. length-cut _ _)
+loop-holds c = putting-none _ _ _ _ _ (c .before .pre .3) (λ j. length-cut _ _)
 
 write-vector-requires : tie.Need-write-vector-requires Inv-loop μ-loop
-write-vector-requires c κs = (omega arith, putting-room (c .before .before .before .loop .inv) (omega arith))
+write-vector-requires c κs = (omega arith, omega arith, putting-room (c .before .before .before .loop .inv) (omega arith))
 
 loop-again : tie.Need-loop-again Inv-loop μ-loop
 loop-again c =

@@ -1,48 +1,46 @@
--- `write_vector` meets its contract: the loop places the numbers one after another.
-use mathlib.Core.Path.{refl, ap, _∙_}
-use mathlib.Core.List.{List, [], _∷_}
-use Prim.Native.Nat.{_-_}
+-- `write_vector` meets its contract: the numbers are set one after another, up to the size.
 use native.Mathlib.Omega.{arith}
-use lib.Ieee.{Float}
-use Rattle.matrix.specs.Matrix.{at}
-use Rattle.matrix.specs.Array.{cut}
-use Rattle.buffer.specs.Buffer.{placed}
-use Rattle.buffer.proofs.Places.{set-placed, joined-single, Putting, putting-none, putting-more, putting-all}
+use lib.ListN.{length-set}
+use Rattle.buffer.proofs.Places.{written, write-one, write-two, write-three, write-four}
 use Rattle.buffer.proofs.write_vector.Statement.{statement}
 use Rattle.buffer.proofs.write_vector.Tie as tie
 
-abbrev Inv-loop : tie.InvT-loop
-Inv-loop b₀ k n v i₀ b i = Putting k 1 (λ i. at v i ∷ []) b₀ n i b
+returns : tie.Need-returns
+returns c = let a = c .before .args in written _ (a .t3) (a .k) (c .if1 .taken) (write-one (a .b .now) (a .t3) (a .k) (omega arith))
 
-abbrev μ-loop : tie.MeasureT-loop
-μ-loop b₀ k n v i₀ b i = n - i
+returns-2 : tie.Need-returns-2
+returns-2 c = let a = c .before .before .args in written _ (a .t3) (a .k) (c .if2 .taken) (write-two (a .b .now) (a .t3) (a .k) (omega arith))
 
-loop-holds : tie.Need-loop-holds Inv-loop μ-loop
-loop-holds c = putting-none _ _ _ _ _ (omega arith) (λ j. refl)
+returns-3 : tie.Need-returns-3
+returns-3 c = let a = c .before .before .before .args in written _ (a .t3) (a .k) (c .if3 .taken) (write-three (a .b .now) (a .t3) (a .k) (omega arith))
 
-loop-again : tie.Need-loop-again Inv-loop μ-loop
-loop-again c = putting-more _ (c .before .loop .inv) (omega arith) (omega arith) (set-placed _ _ _ (omega arith))
-
-returns : tie.Need-returns Inv-loop μ-loop
-unfolding cut
-returns c =
-    let a = c .before .before .args in
-    putting-all (c .before .loop .inv) (omega arith) ∙ ap (λ (l : List Float). placed (a .k) l (a .b .now)) (joined-single (a .n) (λ i. at (a .t3) i))
+returns-4 : tie.Need-returns-4
+returns-4 c = let a = c .before .before .before .args in written _ (a .t3) (a .k) {j = 4} (omega arith) (write-four (a .b .now) (a .t3) (a .k) (omega arith))
 
 pub write-vector-spec : {M : Type 1} → statement M
 write-vector-spec =
     tie.close
     (tie.spec
-    Inv-loop
-    μ-loop
-    loop-holds
     (λ c. omega arith)
     (λ c. omega arith)
     (λ c. omega arith)
+    (λ c. simp length-set)
+    returns
     (λ c. omega arith)
     (λ c. omega arith)
     (λ c. omega arith)
+    (λ c. simp length-set (omega arith))
+    (λ c. simp length-set)
+    returns-2
     (λ c. omega arith)
-    loop-again
     (λ c. omega arith)
-    returns)
+    (λ c. omega arith)
+    (λ c. simp length-set (omega arith))
+    (λ c. simp length-set)
+    returns-3
+    (λ c. omega arith)
+    (λ c. omega arith)
+    (λ c. omega arith)
+    (λ c. simp length-set (omega arith))
+    (λ c. simp length-set)
+    returns-4)

@@ -11,7 +11,7 @@ use Rattle.matrix.proofs.Results.{size-of}
 use Rattle.buffer.proofs.Calls.{vector-read, matrix-read}
 use Rattle.rts_smoother.specs.Buffer.{stride, slotFrom}
 use Rattle.rts_smoother.proofs.Sizes.{square-small, slot-room}
-use Rattle.rts_smoother.proofs.Passes.{Going, going-start, going-room, going-more, going-stop, going-done, gain-answered, gain-refused}
+use Rattle.rts_smoother.proofs.Passes.{Going, going-start, going-room, going-more, going-stop, going-done}
 use Rattle.rts_smoother.proofs.back.Statement.{statement}
 use Rattle.rts_smoother.proofs.back.Tie as tie
 
@@ -49,42 +49,29 @@ loop-room c =
     let s = c .before .before .before .before .before .before .before in
     (s .pre .0, slot-room (stride (s .args .n)) (omega (arith, c .before .loop .inv .below)) (s .pre .3) (c .before .before .before .before .stride-of .ensures))
 
-inverted-requires : tie.Need-inverted-requires Inv-loop μ-loop
-inverted-requires c κs = loop-room (c .before .before .before .before .before)
-
-slot-gain-requires : tie.Need-slot-gain-requires Inv-loop μ-loop
-slot-gain-requires c κs = loop-room (c .before .before .before .before .before .before .before .before .before .before)
-
-moved-state-requires : tie.Need-moved-state-requires Inv-loop μ-loop
-moved-state-requires c κs = loop-room (c .before .before .before .before .before .before .before .before .before .before .before .before)
-
-moved-covariance-requires : tie.Need-moved-covariance-requires Inv-loop μ-loop
-moved-covariance-requires c κs = loop-room (c .before .before .before .before .before .before .before .before .before .before .before .before .before .before .before)
+step-requires : tie.Need-step-requires Inv-loop μ-loop
+step-requires c κs = loop-room (c .before .before .before .before .before .before .before)
 
 loop-again : tie.Need-loop-again Inv-loop μ-loop
 loop-again c =
-    let state = c .before .before .before in
-    let gain = state .before .before in
-    let told = gain .before .before .before in
-    let inverse = told .before .before in
-    let pair = inverse .before .before .before in
+    let one = c .before .before in
+    let pair = one .before .before .before .before .before in
     let t = pair .before .before .before in
     let st = t .before .before .before .before in
     let a = st .before .before .before .args in
     let j = t .before .loop .k - 1 in
-    going-more _ _ _ _ (t .before .loop .inv) (omega (arith, t)) (ap (λ (m : ℕ). slotFrom (a .n) (a .slots .now) (j * m)) (st .stride-of .ensures))
-    (gain-answered _ _ _ (inverse .inverted .ensures) (told .enum-told .given .1) (gain .before .before .rows-of .ensures) (gain .slot-gain .ensures))
-    (state .moved-state .ensures) (c .moved-covariance .ensures) (pair .put-pair .ensures) (pair .put-pair .kept .0)
+    going-more _ _ _ _ (t .before .loop .inv) (omega (arith, t)) (ap (λ (m : ℕ). slotFrom (a .n) (a .slots .now) (j * m)) (st .stride-of .ensures)) (one .step .ensures)
+    (c .enum-told .given .1) (pair .put-pair .ensures) (pair .put-pair .kept .0)
 
 returns : tie.Need-returns Inv-loop μ-loop
 returns c =
-    let inverse = c .before .before .before in
-    let t = inverse .before .before .before .before .before .before in
+    let one = c .before .before .before in
+    let t = one .before .before .before .before .before .before .before .before in
     let st = t .before .before .before .before in
     let a = st .before .before .before .args in
     let j = t .before .loop .k - 1 in
-    going-stop _ _ _ _ (t .before .loop .inv) (omega (arith, t)) (ap (λ (m : ℕ). slotFrom (a .n) (a .slots .now) (j * m)) (st .stride-of .ensures))
-    (gain-refused _ _ _ (inverse .inverted .ensures) (c .before .status .given .1))
+    going-stop _ _ _ _ (t .before .loop .inv) (omega (arith, t)) (ap (λ (m : ℕ). slotFrom (a .n) (a .slots .now) (j * m)) (st .stride-of .ensures)) (one .step .ensures)
+    (c .before .status .given .1)
 
 put-pair-requires-2 : tie.Need-put-pair-requires-2 Inv-loop μ-loop
 put-pair-requires-2 c κs = (c .before .before .before .before .before .before .before .before .before .pre .0, omega (arith, going-room _ _ _ _ (c .before .before .before .loop .inv)))
@@ -114,16 +101,12 @@ back-spec =
     put-pair-requires
     (λ c. omega (arith, c .before .before .before .before .before))
     (λ c. omega (arith, loop-room (c .before .before .before .before .before)))
-    inverted-requires
+    step-requires
     (λ c. search needs)
-    (λ c κs. search needs)
-    slot-gain-requires
-    moved-state-requires
-    moved-covariance-requires
-    (λ c. omega (arith, c .before .before .before .before .before .before .before .before .before .before .before .before .before .before .before .before))
+    (λ c. omega (arith, c .before .before .before .before .before .before .before .before .before .before))
     loop-again
     (λ c. search needs)
-    (λ c. c .before .before .before .before .before .before .put-pair .kept .0 ∙ c .before .before .before .before .before .before .before .before .before .before .loop .inv .long)
+    (λ c. c .before .before .before .before .before .before .before .before .put-pair .kept .0 ∙ c .before .before .before .before .before .before .before .before .before .before .before .before .loop .inv .long)
     returns
     put-pair-requires-2
     (λ c. c .before .before .put-pair2 .kept .0 ∙ c .before .before .before .before .before .before .loop .inv .long)

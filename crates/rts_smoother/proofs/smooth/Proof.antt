@@ -1,8 +1,10 @@
 -- `smooth` meets its contract: the pass fills the front of a buffer of +0, and as much of it as the output holds is copied.
 use mathlib.Core.Path.{sym, _∙_}
 use native.Mathlib.Omega.{arith}
-use lib.ListN.{length}
+use lib.ListN.{length, take}
 use borrow.Author.Needs.{needs}
+use borrow.Author.Tests.{le-leb}
+use Rattle.scalar.proofs.Choice.{cond-true}
 use Rattle.rts_smoother.proofs.Sizes.{Smoothable, smoothable-of, output-small, passable}
 use Rattle.rts_smoother.proofs.Outputs.{smooth-unsized, smooth-none, smooth-stopped, smooth-done}
 use Rattle.rts_smoother.proofs.smooth.Statement.{statement}
@@ -21,20 +23,18 @@ returns c =
 back-requires : tie.Need-back-requires
 back-requires c κs = let t = c .before .before .before in passable (sizes t) (omega (arith, c .before .before .if2 .left))
 
-copy-front-requires : tie.Need-copy-front-requires
-copy-front-requires c κs =
-    let b = c .before .before .before .before .before in
-    let s = sizes (b .before .before .before .before) in
-    omega (arith, s .output, b .back .kept .1 .1 .1 .1 .0, output-small (s .buffer .sizes .size .most) (s .buffer .sizes .few))
-
 returns-2 : tie.Need-returns-2
 returns-2 c =
     let b = c .before .before .before .before .before .before .before .before in
     let t = b .before .before .before .before in
     let a = t .before .before .before .before .args in
     let s = sizes t in
+    let small = output-small (s .buffer .sizes .size .most) (s .buffer .sizes .few) in
     smooth-done (a .n) (a .room) (a .count) (a .slots .now) (a .t5) (a .output .now) {N = 1280} (sym (t .before .is-smoothable .ensures) ∙ t .if1 .taken)
-    (output-small (s .buffer .sizes .size .most) (s .buffer .sizes .few)) (b .back .ensures) (c .before .before .before .before .before .enum-told .given .1) (c .before .before .copy-front .ensures)
+    small (b .back .ensures) (c .before .before .before .before .before .enum-told .given .1)
+    (c .before .before .copy-front .ensures
+    ∙ cond-true (take (length (a .output .now)) (b .back .last .1 .1 .1 .1 .0)) (a .output .now)
+    (le-leb (length (a .output .now)) (length (b .back .last .1 .1 .1 .1 .0)) (omega (arith, s .output, b .back .kept .1 .1 .1 .1 .0, small))))
 
 returns-3 : tie.Need-returns-3
 returns-3 c =
@@ -58,7 +58,7 @@ smooth-spec =
     back-requires
     (λ c. search needs)
     (λ c. search needs)
-    copy-front-requires
+    (λ c κs. search needs)
     (λ c. search needs)
     (λ c. search needs)
     returns-2
