@@ -1,3 +1,4 @@
 pub mod Slices
 pub mod Given
 pub mod Filter
+pub mod Smoother

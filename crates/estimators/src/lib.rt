@@ -15,6 +15,7 @@ use matrix::VectorResult;
 pub mod filter;
 pub mod matrices;
 pub mod numbers;
+pub mod smoother;
 
 // ---- slices, tested by one bool
 

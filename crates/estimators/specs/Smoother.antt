@@ -1,0 +1,42 @@
+-- The smoother's slots, pairs and output in slices: what each call answers, for state size n and room for T slots, of which c are stored. Definitions only.
+use Prim.Native.Nat.{ℕ, _+_, _*_}
+use mathlib.Core.List.{List, _++_}
+use mathlib.Core.Bool.{Bool, _&&_}
+use lib.Dec.{leb, eqb}
+use lib.ListN.{length, take, drop}
+use lib.Ieee.{Float}
+use Rattle.matrix.specs.declared.Status.{Status}
+use Rattle.matrix.specs.declared.Status.the-variants.{Done, Refused}
+use Rattle.matrix.specs.Answer.{Answer, mapped, refused-if, if-sized}
+use Rattle.matrix.specs.Matrix.{Matrix}
+use Rattle.matrix.specs.Result.{sized}
+use Rattle.buffer.specs.Buffer.{placed}
+use Rattle.rts_smoother.specs.Smoother.{smooth}
+use Rattle.rts_smoother.specs.Buffer.{pairLength, stride, dutyOf, outputOf, buffered}
+use Rattle.rts_smoother.specs.Record.{smoothable}
+
+-- the number of a status
+abbrev pub numberOf : Status → ℕ
+numberOf Done = 0
+numberOf (Refused k) = k
+
+-- a slice of m numbers is just a pair, and just a slot
+unfoldable pub isPair : ℕ → ℕ → Bool
+isPair n m = sized n && eqb m (pairLength n)
+
+unfoldable pub isSlot : ℕ → ℕ → Bool
+isSlot n m = sized n && eqb m (stride n)
+
+-- the count and the slots b with the pairs f and p as one slot more: refused with 1 for the sizes, with 5 where c is T
+abbrev pub storeIn : ℕ → ℕ → ℕ → List Float → List Float → List Float → Answer (ℕ × List Float)
+storeIn n T c b f p =
+    if-sized ((isPair n (length f) && isPair n (length p)) && buffered (length b) n T c)
+    (refused-if (leb T c) 5 (c + 1, placed (c * stride n) (f ++ p) b))
+
+-- slot k of b, for a slice of m numbers: refused with 1 for the sizes, with 6 where k is not below c
+abbrev pub slotIn : ℕ → ℕ → ℕ → List Float → ℕ → ℕ → Answer (List Float)
+slotIn n T c b k m = if-sized (isSlot n m && buffered (length b) n T c) (refused-if (leb c k) 6 (take (stride n) (drop (k * stride n) b)))
+
+-- the output that smoothing the first c slots of b with the transition F leaves in one of m numbers: refused with 1 for the sizes, and else as smoothing is
+abbrev pub smoothIn : ℕ → ℕ → ℕ → List Float → Matrix → ℕ → Answer (List Float)
+smoothIn n T c b F m = if-sized (smoothable (length b) m n T c) (mapped (outputOf n T) (smooth (dutyOf n F b c)))
