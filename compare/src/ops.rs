@@ -1,0 +1,86 @@
+//! The calls that both drivers answer, by the module they belong to. A module that joins adds its
+//! family and its calls here, and one file in each of rust_side, port_side and generate.
+
+/// The module of a call.
+#[derive(Clone, Copy, PartialEq, Eq)]
+pub enum Family {
+    Scalar,
+    Matrix,
+    Kalman,
+    RtsSmoother,
+}
+
+use Family::{Kalman, Matrix, RtsSmoother, Scalar};
+
+/// Every call, in the order of PROTOCOL.md.
+pub const OPS: &[(&str, Family)] = &[
+    ("consts", Scalar),
+    ("sqrt", Scalar),
+    ("abs", Scalar),
+    ("clamp_val", Scalar),
+    ("saturate", Scalar),
+    ("from_f64", Scalar),
+    ("to_f64", Scalar),
+    ("from_int", Scalar),
+    ("pid_abs", Scalar),
+    ("clamp_pid", Scalar),
+    ("zeros", Matrix),
+    ("default", Matrix),
+    ("filled", Matrix),
+    ("identity", Matrix),
+    ("transpose", Matrix),
+    ("add_mat", Matrix),
+    ("sub_mat", Matrix),
+    ("eq", Matrix),
+    ("scale", Matrix),
+    ("neg", Matrix),
+    ("frob_norm", Matrix),
+    ("trace", Matrix),
+    ("get", Matrix),
+    ("set", Matrix),
+    ("matmul", Matrix),
+    ("matvec", Matrix),
+    ("outer", Matrix),
+    ("vec_add", Matrix),
+    ("vec_sub", Matrix),
+    ("vec_dot", Matrix),
+    ("vec_scale", Matrix),
+    ("vec_norm", Matrix),
+    ("inv", Matrix),
+    ("cholesky", Matrix),
+    ("kf_new", Kalman),
+    ("kf_predict", Kalman),
+    ("kf_update", Kalman),
+    ("kf_reset", Kalman),
+    ("kf_posvel", Kalman),
+    ("kf_seq", Kalman),
+    ("rts_store", RtsSmoother),
+    ("rts_get", RtsSmoother),
+    ("rts_smooth", RtsSmoother),
+    ("rts_stale", RtsSmoother),
+];
+
+/// The refusals that a call can meet, besides 1 (sizes), which the Rust has not.
+pub fn refusals(op: &str) -> &'static [u8] {
+    match op {
+        "inv" | "kf_update" | "kf_seq" => &[3],
+        "cholesky" => &[4],
+        "rts_store" => &[5],
+        "rts_get" => &[6],
+        "rts_smooth" | "rts_stale" => &[2, 3],
+        _ => &[],
+    }
+}
+
+/// Calls of PROTOCOL.md that no driver answers: modules that are not ported.
+const NOT_PORTED: &[&str] = &["if_", "sq_", "imm_", "fis_"];
+
+/// The module of the call `op`, or what both drivers say instead.
+pub fn family(op: &[u8]) -> Result<Family, &'static str> {
+    match OPS.iter().find(|(name, _)| name.as_bytes() == op) {
+        Some((_, family)) => Ok(*family),
+        None if op == b"exp" => Err("not ported"),
+        None if NOT_PORTED.iter().any(|p| op.starts_with(p.as_bytes())) => Err("not ported"),
+        None => Err("unknown call"),
+    }
+}
