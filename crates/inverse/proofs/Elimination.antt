@@ -12,19 +12,20 @@ use Rattle.scalar.specs.Number.{_⊘_, one, abs}
 use Rattle.matrix.specs.Answer.{Answer, refused, answered, and-then, mapped, refused-if, where-sized, if-sized}
 use Rattle.matrix.specs.Table.{table}
 use Rattle.matrix.specs.Matrix.{Vector, Matrix, row, cell, identity}
-use Rattle.matrix.specs.Array.{cut, used}
+use Rattle.matrix.specs.Array.{cut, used, pad}
 use Rattle.matrix.specs.declared.Status.the-variants.{Done}
+use Rattle.matrix.specs.declared.MatrixResult.{MatrixResult}
 use Rattle.matrix.specs.Result.{matrixResult, asMatrix, sized, shaped}
 use Rattle.matrix.specs.Kernel.{rowsOf}
 use Rattle.matrix.proofs.Tables.{getD-table, table-ext}
-use Rattle.matrix.proofs.Matrices.{shape-identity}
+use Rattle.matrix.proofs.Matrices.{Shape, shape-identity}
 use Rattle.matrix.proofs.Arrays.{cell-used}
 use Rattle.inverse.specs.Inverse.{noPivot, pivotRow, swapped, scaledRow, reduced, Augmented, _∣_, exchanged, cleared, column, columns, inv}
 use Rattle.inverse.specs.Rows.{Swap, Scale, Reduce, Clear}
 use Rattle.matrix.proofs.Answers.{if-true, if-false}
-use Rattle.matrix.proofs.Kernels.{rows-sized, identity-used}
+use Rattle.matrix.proofs.Kernels.{rows-sized, identity-used, used-all}
 use Rattle.matrix.proofs.Results.{size, shaped-true}
-use Rattle.inverse.proofs.Laws.{column-ext}
+use Rattle.inverse.proofs.Laws.{column-ext, inv-shape}
 use Rattle.inverse.proofs.Rows.{swapped-used, scaled-used}
 
 -- ---- one turn: on one of the arrays, m, which becomes m₁ and then m₂
@@ -138,3 +139,27 @@ pub inv-sized : {n k : ℕ} (a : Matrix) → n ≡ k → sized k ≡ true → as
 inv-sized {n} {k} a e t =
     ap (λ (b : Bool). asMatrix (if-sized b (inv k (used k k a)))) (sym t)
     ∙ ap (λ (m : ℕ). asMatrix (if-sized (sized m) (inv m (used m m a)))) (sym e)
+
+-- ---- a result whose rows are read again, all four numbers of each: it stays
+
+four-rows : (n : ℕ) (A : Matrix) → n ≤ 4 → used 4 4 (pad (used n n A)) ≡ pad (used n n A)
+unfolding used cut pad
+four-rows zero A h = refl
+four-rows (suc zero) A h = refl
+four-rows (suc (suc zero)) A h = refl
+four-rows (suc (suc (suc zero))) A h = refl
+four-rows (suc (suc (suc (suc zero)))) A h = refl
+four-rows (suc (suc (suc (suc (suc n))))) A h = absurd (omega arith)
+
+abbrev again : MatrixResult → MatrixResult
+again r = matrixResult (r .status) (used 4 4 (r .rows))
+
+read-answer : (n : ℕ) (o : Answer Matrix) → n ≤ 4 → ((B : Matrix) → o ≡ answered B → Shape n n B) → again (asMatrix o) ≡ asMatrix o
+unfolding used cut pad
+read-answer n (refused k) h s = refl
+read-answer n (answered B) h s =
+    let same = used-all n n B (s B refl) in
+    ap (λ (A : Matrix). matrixResult Done (used 4 4 (pad A))) (sym same) ∙ ap (matrixResult Done) (four-rows n B h) ∙ ap (λ (A : Matrix). matrixResult Done (pad A)) same
+
+pub inv-read : (n : ℕ) (A : Matrix) {r : MatrixResult} → n ≤ 4 → r ≡ asMatrix (inv n A) → again r ≡ asMatrix (inv n A)
+inv-read n A h q = ap again q ∙ read-answer n (inv n A) h (inv-shape n A)

@@ -6,7 +6,6 @@ use lib.Ieee.{Float, lt}
 use Rattle.scalar.specs.Number.{_⊖_, _⊗_, _⊘_, one, +0, abs}
 use Rattle.matrix.specs.Answer.{Answer, refused, and-then, mapped, refused-if}
 use Rattle.matrix.specs.Matrix.{Matrix, cell, identity}
-use Rattle.matrix.specs.Array.{cut, used}
 use Rattle.inverse.specs.Inverse.{noPivot, pivotRow, swapped, scaledRow, reduced, Augmented, _∣_, exchanged, cleared, column, columns, inv}
 use Rattle.inverse.specs.Two.{oneByOne, twoByTwo, reciprocal, fromDiagonal}
 
@@ -20,7 +19,7 @@ then-tested : (b : Bool) (w : Augmented) (f : Augmented → Answer Augmented)
 then-tested true w f = refl
 then-tested false w f = refl
 
-pub one-is : (x : Float) → inv 1 (oneByOne x) ≡ refused-if (noPivot (abs x)) 3 (oneByOne (one ⊗ (one ⊘ x)))
+one-is : (x : Float) → inv 1 (oneByOne x) ≡ refused-if (noPivot (abs x)) 3 (oneByOne (one ⊗ (one ⊘ x)))
 unfolding inv columns column exchanged swapped cleared scaledRow reduced pivotRow identity
 one-is x = tested (noPivot (abs x)) (cleared 1 0 (exchanged 1 0 0 (oneByOne x ∣ identity 1)))
 
@@ -60,9 +59,7 @@ module _ (A : Matrix) where
   choice true = refl
   choice false = refl
 
-pub two-is : (m : Matrix) → inv 2 (used 2 2 m)
-    ≡ cond (lt (abs (cell m 0 0)) (abs (cell m 1 0)))
-    (fromDiagonal (twoByTwo (cell m 1 0) (cell m 1 1) (cell m 0 0) (cell m 0 1)) (twoByTwo +0 one one +0))
-    (fromDiagonal (twoByTwo (cell m 0 0) (cell m 0 1) (cell m 1 0) (cell m 1 1)) (twoByTwo one +0 +0 one))
-unfolding inv columns pivotRow column exchanged swapped identity used cut from fromDiagonal
-two-is m = choice (used 2 2 m) (lt (abs (cell m 0 0)) (abs (cell m 1 0)))
+pub two-is : (a b c d : Float) → inv 2 (twoByTwo a b c d)
+    ≡ cond (lt (abs a) (abs c)) (fromDiagonal (twoByTwo c d a b) (twoByTwo +0 one one +0)) (fromDiagonal (twoByTwo a b c d) (twoByTwo one +0 +0 one))
+unfolding inv columns pivotRow column exchanged swapped identity from fromDiagonal
+two-is a b c d = choice (twoByTwo a b c d) (lt (abs a) (abs c))

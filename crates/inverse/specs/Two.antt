@@ -3,7 +3,11 @@ use mathlib.Core.List.{[], _∷_}
 use lib.Ieee.{Float}
 use Rattle.scalar.specs.Number.{_⊗_, _⊘_, one, abs}
 use Rattle.matrix.specs.Answer.{Answer, and-then, mapped, refused-if}
-use Rattle.matrix.specs.Matrix.{Matrix, cell}
+use Rattle.matrix.specs.Matrix.{Matrix, at, cell}
+use Rattle.matrix.specs.Array.{pad}
+use Rattle.matrix.specs.Result.{matrixResult}
+use Rattle.matrix.specs.declared.MatrixResult.{MatrixResult}
+use Rattle.matrix.specs.declared.VectorResult.{VectorResult}
 use Rattle.inverse.specs.Inverse.{noPivot, _∣_, cleared, column}
 
 abbrev pub oneByOne : Float → Matrix
@@ -11,6 +15,10 @@ oneByOne x = (x ∷ []) ∷ []
 
 abbrev pub twoByTwo : Float → Float → Float → Float → Matrix
 twoByTwo a b c d = (a ∷ b ∷ []) ∷ (c ∷ d ∷ []) ∷ []
+
+-- four cells beside their case, in the rows of a matrix of the size 2
+abbrev pub inRows : VectorResult → MatrixResult
+inRows r = matrixResult (r .status) (pad (twoByTwo (at (r .cells) 0) (at (r .cells) 1) (at (r .cells) 2) (at (r .cells) 3)))
 
 -- the one cell of the inverse of a matrix of one cell
 unfoldable pub reciprocal : Float → Answer Float

@@ -9,13 +9,14 @@ ghost use Rattle.matrix.specs.Answer.{if-sized};
 ghost use Rattle.matrix.specs.Table.{table};
 ghost use Rattle.matrix.specs.Matrix.{cell};
 ghost use Rattle.matrix.specs.Array.{used};
-ghost use Rattle.matrix.specs.Result.{asMatrix, asScalar, sized};
-ghost use Rattle.inverse.specs.Two.{oneByOne, twoByTwo, reciprocal, fromDiagonal};
+ghost use Rattle.matrix.specs.Result.{matrixResult, asMatrix, asScalar, sized};
+ghost use Rattle.inverse.specs.Two.{oneByOne, twoByTwo, inRows, reciprocal, fromDiagonal};
 ghost use Rattle.inverse.specs.Rows.{Swap, Scale, Reduce, Clear};
 ghost use Rattle.inverse.specs.Inverse.{noPivot, pivotRow, inv as invOf};
 use matrix::MatrixResult;
 use matrix::ScalarResult;
 use matrix::Status;
+use matrix::VectorResult;
 use matrix::kernel;
 
 // ---- the pivot
@@ -150,51 +151,74 @@ pub fn inverse_number(x: f64) -> ScalarResult
 fn inverse_one(x: f64) -> MatrixResult
     ensures { λ r. ⌜ r ≡ asMatrix (invOf 1 (oneByOne x)) ⌝ }
 {
-    if no_pivot(x) {
-        return matrix::matrix_refused(3);
+    let inverted = inverse_number(x);
+    match inverted {
+        ScalarResult::Value(w) => {
+            let z = [0.0; 4];
+            matrix::matrix_result(Status::Done, [[w, 0.0, 0.0, 0.0], z, z, z])
+        }
+        ScalarResult::Refused(number) => matrix::matrix_refused(number),
     }
-    let z = [0.0; 4];
-    let r0 = [1.0 * (1.0 / x), 0.0, 0.0, 0.0];
-    matrix::matrix_result(Status::Done, [r0, z, z, z])
 }
 
-// The rows (a, b), (p, q) beside the rows (e, f), (g, h), where a is the first column's pivot.
-fn diagonal_two(a: f64, b: f64, p: f64, q: f64, e: f64, f: f64, g: f64, h: f64) -> MatrixResult
-    ensures { λ r. ⌜ r ≡ asMatrix (fromDiagonal (twoByTwo a b p q) (twoByTwo e f g h)) ⌝ }
+// The four cells in the end, row by row, of the rows (a, b), (p, q) beside the rows (e, f), (g, h), where a is
+// the first column's pivot.
+fn diagonal_two(a: f64, b: f64, p: f64, q: f64, e: f64, f: f64, g: f64, h: f64) -> VectorResult
+    ensures { λ r. ⌜ inRows r ≡ asMatrix (fromDiagonal (twoByTwo a b p q) (twoByTwo e f g h)) ⌝ }
 {
     if no_pivot(a) {
-        return matrix::matrix_refused(3);
+        return matrix::vector_refused(3);
     }
     let s = 1.0 / a;
     let u = b * s;
     let d = q - p * u;
     if no_pivot(d) {
-        return matrix::matrix_refused(3);
+        return matrix::vector_refused(3);
     }
     let t = 1.0 / d;
     let v = (g - p * (e * s)) * t;
     let w = (h - p * (f * s)) * t;
-    let z = [0.0; 4];
-    let r0 = [e * s - u * v, f * s - u * w, 0.0, 0.0];
-    let r1 = [v, w, 0.0, 0.0];
-    matrix::matrix_result(Status::Done, [r0, r1, z, z])
+    matrix::vector_result(Status::Done, [e * s - u * v, f * s - u * w, v, w])
 }
 
-fn inverse_two(a: &[[f64; 4]; 4]) -> MatrixResult
-    ensures { λ r. ⌜ r ≡ asMatrix (invOf 2 (used 2 2 (now (a .entry)))) ⌝ }
+// The four cells of the inverse of (a, b), (c, d), row by row.
+fn inverse_two(a: f64, b: f64, c: f64, d: f64) -> VectorResult
+    ensures { λ r. ⌜ inRows r ≡ asMatrix (invOf 2 (twoByTwo a b c d)) ⌝ }
 {
-    let a00 = a[0][0];
-    let a01 = a[0][1];
-    let a10 = a[1][0];
-    let a11 = a[1][1];
-    if above(a10, a00) {
-        diagonal_two(a10, a11, a00, a01, 0.0, 1.0, 1.0, 0.0)
+    if above(c, a) {
+        diagonal_two(c, d, a, b, 0.0, 1.0, 1.0, 0.0)
     } else {
-        diagonal_two(a00, a01, a10, a11, 1.0, 0.0, 0.0, 1.0)
+        diagonal_two(a, b, c, d, 1.0, 0.0, 0.0, 1.0)
     }
 }
 
-// ---- the entries
+// Four cells in their rows.
+fn rows_two(r: VectorResult) -> MatrixResult
+    ensures { λ m. ⌜ m ≡ inRows r ⌝ }
+{
+    let w = r.cells;
+    let z = [0.0; 4];
+    let r0 = [w[0], w[1], 0.0, 0.0];
+    let r1 = [w[2], w[3], 0.0, 0.0];
+    let status = r.status;
+    matrix::matrix_result(status, [r0, r1, z, z])
+}
+
+// ---- the entries. Both choose by size, and only the elimination takes an address and gives a whole matrix
+// back: where an entry is inlined, the compiler then keeps the numbers of the sizes 1 and 2 in registers.
+
+// All four rows, read number by number: so a caller's copy of them is not one block of memory for every size.
+fn read_again(r: MatrixResult) -> MatrixResult
+    ensures { λ m. ⌜ m ≡ matrixResult (r .status) (used 4 4 (r .rows)) ⌝ }
+{
+    let status = r.status;
+    let m = matrix::rows_of(r);
+    let r0 = matrix::kept(m[0], 4);
+    let r1 = matrix::kept(m[1], 4);
+    let r2 = matrix::kept(m[2], 4);
+    let r3 = matrix::kept(m[3], 4);
+    matrix::matrix_result(status, [r0, r1, r2, r3])
+}
 
 // The inverse of the n by n matrix a, lent. Refused: 1 where n is no size, 3 where a column has no pivot.
 pub fn inverse_of(a: &[[f64; 4]; 4], n: usize) -> MatrixResult
@@ -204,7 +228,7 @@ pub fn inverse_of(a: &[[f64; 4]; 4], n: usize) -> MatrixResult
         return inverse_one(a[0][0]);
     }
     if n == 2 {
-        return inverse_two(a);
+        return rows_two(inverse_two(a[0][0], a[0][1], a[1][0], a[1][1]));
     }
     if matrix::is_size(n) {
         eliminate(a, n)
@@ -217,5 +241,14 @@ pub fn inverse_of(a: &[[f64; 4]; 4], n: usize) -> MatrixResult
 pub fn inv(a: [[f64; 4]; 4], n: usize) -> MatrixResult
     ensures { λ r. ⌜ r ≡ asMatrix (if-sized (sized n) (invOf n (used n n a))) ⌝ }
 {
-    inverse_of(&a, n)
+    if n == 1 {
+        inverse_one(a[0][0])
+    } else if n == 2 {
+        rows_two(inverse_two(a[0][0], a[0][1], a[1][0], a[1][1]))
+    } else if matrix::is_size(n) {
+        let lent = a;
+        read_again(eliminate(&lent, n))
+    } else {
+        matrix::matrix_refused(1)
+    }
 }

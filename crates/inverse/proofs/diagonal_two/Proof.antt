@@ -5,27 +5,30 @@ use Rattle.scalar.proofs.Choice.{cond-true, cond-false}
 use Rattle.matrix.specs.Array.{pad}
 use Rattle.matrix.specs.Result.{asMatrix}
 use Rattle.matrix.proofs.Answers.{if-true, if-false}
+use Rattle.inverse.specs.Two.{inRows}
 use Rattle.inverse.proofs.Two.{diagonal-is}
 use Rattle.inverse.proofs.diagonal_two.Statement.{statement}
 use Rattle.inverse.proofs.diagonal_two.Tie as tie
 
 returns : tie.Need-returns
+unfolding pad
 returns c =
-    c .matrix-refused .ensures
+    ap inRows (c .vector-refused .ensures)
     ∙ ap asMatrix (sym (diagonal-is _ _ _ _ _ _ _ _ ∙ cond-true _ _ (sym (c .before .before .no-pivot .ensures) ∙ c .before .if1 .taken)))
 
 returns-2 : tie.Need-returns-2
+unfolding pad
 returns-2 c =
     let first = sym (c .before .before .before .before .no-pivot .ensures) ∙ c .before .before .before .if1 .left in
     let second = sym (c .before .before .no-pivot2 .ensures) ∙ c .before .if2 .taken in
-    c .matrix-refused2 .ensures ∙ ap asMatrix (sym (diagonal-is _ _ _ _ _ _ _ _ ∙ cond-false _ _ first ∙ if-true _ _ second))
+    ap inRows (c .vector-refused2 .ensures) ∙ ap asMatrix (sym (diagonal-is _ _ _ _ _ _ _ _ ∙ cond-false _ _ first ∙ if-true _ _ second))
 
 returns-3 : tie.Need-returns-3
 unfolding pad
 returns-3 c =
     let first = sym (c .before .before .before .before .no-pivot .ensures) ∙ c .before .before .before .if1 .left in
     let second = sym (c .before .before .no-pivot2 .ensures) ∙ c .before .if2 .left in
-    c .matrix-result .ensures ∙ ap asMatrix (sym (diagonal-is _ _ _ _ _ _ _ _ ∙ cond-false _ _ first ∙ if-false _ _ second))
+    ap inRows (c .vector-result .ensures) ∙ ap asMatrix (sym (diagonal-is _ _ _ _ _ _ _ _ ∙ cond-false _ _ first ∙ if-false _ _ second))
 
 pub diagonal-two-spec : {M : Type 1} → statement M
 diagonal-two-spec = tie.close (tie.spec (λ c κs. search needs) (λ c κs. search needs) returns (λ c κs. search needs) (λ c κs. search needs) returns-2 (λ c κs. search needs) returns-3)

@@ -13,8 +13,10 @@ unfolding sized used cut
 returns c = c .inverse-one .ensures ∙ inv-sized (c .before .before .before .args .a .now) (c .before .before .if1 .taken) refl
 
 returns-2 : tie.Need-returns-2
-unfolding sized
-returns-2 c = c .inverse-two .ensures ∙ inv-sized _ (c .before .if2 .taken) refl
+unfolding sized used cut
+returns-2 c =
+    let two = c .before .before .before .before .before .before in
+    c .rows-two .ensures ∙ c .before .inverse-two .ensures ∙ inv-sized (two .before .before .args .a .now) (two .if2 .taken) refl
 
 eliminate-requires : tie.Need-eliminate-requires
 eliminate-requires c κs = let s = size-of _ (sym (c .before .is-size .ensures) ∙ c .if3 .taken) in (s .least, s .most)
@@ -33,6 +35,15 @@ inverse-of-spec =
     (λ c. search needs)
     (λ c κs. search needs)
     returns
+    (λ c. search needs)
+    (λ c. search needs)
+    (λ c. search needs)
+    (λ c. search needs)
+    (λ c. search needs)
+    (λ c. search needs)
+    (λ c. search needs)
+    (λ c. search needs)
+    (λ c κs. search needs)
     (λ c κs. search needs)
     returns-2
     (λ c κs. search needs)

@@ -1,19 +1,36 @@
--- `inverse_one` meets its contract: the definition at 1, written out.
+-- `inverse_one` meets its contract: by what the inversion of one number answers.
 use mathlib.Core.Path.{sym, ap, _∙_}
 use borrow.Author.Needs.{needs}
+use Rattle.matrix.specs.Answer.{mapped}
 use Rattle.matrix.specs.Array.{pad}
 use Rattle.matrix.specs.Result.{asMatrix}
-use Rattle.matrix.proofs.Answers.{if-true, if-false}
-use Rattle.inverse.proofs.Two.{one-is}
+use Rattle.matrix.proofs.Results.{answered-value, refused-number}
+use Rattle.inverse.specs.Two.{oneByOne, reciprocal}
+use Rattle.inverse.proofs.Two.{number-is}
 use Rattle.inverse.proofs.inverse_one.Statement.{statement}
 use Rattle.inverse.proofs.inverse_one.Tie as tie
 
 returns : tie.Need-returns
-returns c = c .matrix-refused .ensures ∙ ap asMatrix (sym (one-is _ ∙ if-true _ _ (sym (c .before .before .no-pivot .ensures) ∙ c .before .if1 .taken)))
+unfolding pad
+returns c =
+    let i = c .before .before .before .before in
+    let q = answered-value (reciprocal (i .before .args .x)) (i .inverse-number .ensures) (c .before .before .inverted .given .1) in
+    c .matrix-result .ensures ∙ ap asMatrix (sym (number-is _ ∙ ap (mapped oneByOne) q))
 
 returns-2 : tie.Need-returns-2
-unfolding pad
-returns-2 c = c .matrix-result .ensures ∙ ap asMatrix (sym (one-is _ ∙ if-false _ _ (sym (c .before .before .no-pivot .ensures) ∙ c .before .if1 .left)))
+returns-2 c =
+    let i = c .before .before .before .before in
+    let q = refused-number (reciprocal (i .before .args .x)) (i .inverse-number .ensures) (c .before .before .inverted2 .given .1) in
+    c .matrix-refused .ensures ∙ ap asMatrix (sym (number-is _ ∙ ap (mapped oneByOne) q))
 
 pub inverse-one-spec : {M : Type 1} → statement M
-inverse-one-spec = tie.close (tie.spec (λ c κs. search needs) (λ c κs. search needs) returns (λ c κs. search needs) returns-2)
+inverse-one-spec =
+    tie.close
+    (tie.spec
+    (λ c κs. search needs)
+    (λ c. search needs)
+    (λ c κs. search needs)
+    (λ c. search needs)
+    (λ c κs. search needs)
+    returns
+    returns-2)

@@ -8,25 +8,10 @@ use Rattle.inverse.proofs.inverse_two.Statement.{statement}
 use Rattle.inverse.proofs.inverse_two.Tie as tie
 
 returns : tie.Need-returns
-returns c = c .diagonal-two .ensures ∙ ap asMatrix (sym (two-is _ ∙ cond-true _ _ (sym (c .before .before .above .ensures) ∙ c .before .if1 .taken)))
+returns c = c .diagonal-two .ensures ∙ ap asMatrix (sym (two-is _ _ _ _ ∙ cond-true _ _ (sym (c .before .before .above .ensures) ∙ c .before .if1 .taken)))
 
 returns-2 : tie.Need-returns-2
-returns-2 c = c .diagonal-two2 .ensures ∙ ap asMatrix (sym (two-is _ ∙ cond-false _ _ (sym (c .before .before .above .ensures) ∙ c .before .if1 .left)))
+returns-2 c = c .diagonal-two2 .ensures ∙ ap asMatrix (sym (two-is _ _ _ _ ∙ cond-false _ _ (sym (c .before .before .above .ensures) ∙ c .before .if1 .left)))
 
 pub inverse-two-spec : {M : Type 1} → statement M
-inverse-two-spec =
-    tie.close
-    (tie.spec
-    (λ c. search needs)
-    (λ c. search needs)
-    (λ c. search needs)
-    (λ c. search needs)
-    (λ c. search needs)
-    (λ c. search needs)
-    (λ c. search needs)
-    (λ c. search needs)
-    (λ c κs. search needs)
-    (λ c κs. search needs)
-    (λ c κs. search needs)
-    returns
-    returns-2)
+inverse-two-spec = tie.close (tie.spec (λ c κs. search needs) (λ c κs. search needs) (λ c κs. search needs) returns returns-2)
