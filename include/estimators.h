@@ -25,81 +25,101 @@
 extern "C" {
 #endif
 
-/* ---- numbers (scalar.rs) */
+/* ---- numbers (scalar.rs): these never refuse, but for scalar_constants */
 
 /* The square root, correctly rounded; NaN below zero, and -0 of -0. */
 double scalar_sqrt(double x);
-/* The sign cleared, also of -0. */
+/* The sign cleared, also of -0. A NaN stays a NaN. */
 double scalar_abs(double x);
 /* x, or the end of min to max that it lies beyond. A NaN passes. */
 double scalar_clamp_val(double x, double min, double max);
 /* The same between -limit and limit. */
 double scalar_saturate(double x, double limit);
+/* The number itself, as the Rust's conversions give it. */
 double scalar_from_f64(double v);
 double scalar_to_f64(double x);
 /* A whole number as the double nearest to it. */
 double scalar_from_int(int32_t v);
+/* The PID part of the number type: the same as scalar_abs and scalar_clamp_val. */
 double scalar_pid_abs(double x);
 double scalar_clamp_pid(double x, double min, double max);
-/* Six constants: ZERO, ONE, TWO, HALF, PI, EPSILON. */
+/* Six constants into out: ZERO, ONE, TWO, HALF, PI, EPSILON. Refused with 1: out is not 6 long. */
 uint8_t scalar_constants(double *out, size_t out_len);
 
-/* ---- matrices (matrix.rs): r rows and c columns; out is another slice than the input */
+/* ---- matrices (matrix.rs): r rows and c columns, by rows
+ *
+ * An r x c slice is r * c doubles, n x n is n * n, and a vector of n numbers is n doubles. out is another slice than the
+ * inputs; a single number or a yes or no comes through a pointer. Each is refused with 1: a size outside 1 to 4, or a
+ * slice of another length. Only matrix_inv and matrix_cholesky have a further refusal.
+ */
 
+/* All cells +0: out is r x c. matrix_default is the same. */
 uint8_t matrix_zeros(size_t r, size_t c, double *out, size_t out_len);
 uint8_t matrix_default(size_t r, size_t c, double *out, size_t out_len);
+/* All cells val: out is r x c. */
 uint8_t matrix_filled(size_t r, size_t c, double val, double *out, size_t out_len);
+/* One on the diagonal and +0 elsewhere: out is n x n. */
 uint8_t matrix_identity(size_t n, double *out, size_t out_len);
-/* r x c to c x r. */
+/* a (r x c) transposed: out is c x r. */
 uint8_t matrix_transpose(size_t r, size_t c, const double *a, size_t a_len, double *out, size_t out_len);
+/* a + b and a - b, cell by cell: all three are r x c. */
 uint8_t matrix_add_mat(size_t r, size_t c, const double *a, size_t a_len, const double *b, size_t b_len,
                        double *out, size_t out_len);
 uint8_t matrix_sub_mat(size_t r, size_t c, const double *a, size_t a_len, const double *b, size_t b_len,
                        double *out, size_t out_len);
+/* Each cell of a times s, and times -1: a and out are r x c. */
 uint8_t matrix_scale(size_t r, size_t c, const double *a, size_t a_len, double s, double *out, size_t out_len);
 uint8_t matrix_neg(size_t r, size_t c, const double *a, size_t a_len, double *out, size_t out_len);
-/* Row i, column j, from 0. Refused with 1 outside. */
+/* The cell of a (r x c) in row i, column j, from 0. Refused with 1 also outside the matrix. */
 uint8_t matrix_get(size_t r, size_t c, size_t i, size_t j, const double *a, size_t a_len, double *out);
-/* The matrix with val in row i, column j. */
+/* a with val in row i, column j: a and out are r x c. Refused with 1 also outside the matrix. */
 uint8_t matrix_set(size_t r, size_t c, size_t i, size_t j, const double *a, size_t a_len, double val,
                    double *out, size_t out_len);
-/* The root of the sum of all cells' squares. */
+/* The root of the sum of the squares of all cells of a (r x c), row after row. */
 uint8_t matrix_frob_norm(size_t r, size_t c, const double *a, size_t a_len, double *out);
+/* The sum of the diagonal of a (n x n). */
 uint8_t matrix_trace(size_t n, const double *a, size_t a_len, double *out);
-/* Equal cell by cell: -0 equals +0, a NaN equals nothing. */
+/* Whether a and b (both r x c) are equal cell by cell: -0 equals +0, a NaN equals nothing. */
 uint8_t matrix_eq(size_t r, size_t c, const double *a, size_t a_len, const double *b, size_t b_len, bool *out);
-/* r x k times k x c. */
+/* a (r x k) times b (k x c): out is r x c. */
 uint8_t matrix_matmul(size_t r, size_t k, size_t c, const double *a, size_t a_len, const double *b, size_t b_len,
                       double *out, size_t out_len);
-/* r x c times a vector of c numbers. */
+/* a (r x c) times the vector v (c): out is a vector (r). */
 uint8_t matrix_matvec(size_t r, size_t c, const double *a, size_t a_len, const double *v, size_t v_len,
                       double *out, size_t out_len);
-/* A vector of r numbers times a transposed one of c. */
+/* The vector v (r) times the transposed vector w (c): out is r x c. */
 uint8_t matrix_outer(size_t r, size_t c, const double *v, size_t v_len, const double *w, size_t w_len,
                      double *out, size_t out_len);
+/* v + w and v - w: all three are vectors (n). */
 uint8_t matrix_vec_add(size_t n, const double *v, size_t v_len, const double *w, size_t w_len,
                        double *out, size_t out_len);
 uint8_t matrix_vec_sub(size_t n, const double *v, size_t v_len, const double *w, size_t w_len,
                        double *out, size_t out_len);
+/* Each number of v times s: v and out are vectors (n). */
 uint8_t matrix_vec_scale(size_t n, const double *v, size_t v_len, double s, double *out, size_t out_len);
+/* The sum of the products of v's and w's numbers (n each), from +0 and from left to right. */
 uint8_t matrix_vec_dot(size_t n, const double *v, size_t v_len, const double *w, size_t w_len, double *out);
+/* The root of v's product with itself (n). */
 uint8_t matrix_vec_norm(size_t n, const double *v, size_t v_len, double *out);
-/* The inverse of an n x n matrix. Refused with 3: a pivot below the limit. */
+/* The inverse of a: a and out are n x n. Refused with 3: a column's pivot is below EPSILON x 1,000,000. */
 uint8_t matrix_inv(size_t n, const double *a, size_t a_len, double *out, size_t out_len);
-/* The lower factor, from the lower triangle. Refused with 4: a reduced diagonal at or below zero. */
+/* The lower factor, +0 above the diagonal, from the lower triangle of a: a and out are n x n. Refused with 4: a reduced
+ * diagonal at or below zero. */
 uint8_t matrix_cholesky(size_t n, const double *a, size_t a_len, double *out, size_t out_len);
 
 /* ---- the linear filter (kalman.rs): state n, measurement m, input i
  *
  * A filter is one slice: transition a (n x n), input matrix b (n x i), measurement matrix h (m x n), process noise
  * q (n x n), measurement noise r (m x m), state x (n), covariance p (n x n), in this order; so its last n + n * n
- * numbers are the estimate. ESTIMATORS_FILTER gives its length.
+ * numbers are the estimate. ESTIMATORS_FILTER gives its length. Each function is refused with 1: a size outside 1 to 4,
+ * or a slice of another length. A refusal leaves the filter unchanged.
  */
 #define ESTIMATORS_PAIR(n) ((n) + (n) * (n))
 #define ESTIMATORS_FILTER(n, m, i) \
     (2 * (n) * (n) + (n) * (i) + (m) * (n) + (m) * (m) + ESTIMATORS_PAIR(n))
 
-/* The filter of a model and an estimate. */
+/* The filter of a model and an estimate: a, q and p0 are n x n, b is n x i, h is m x n, r is m x m, x0 is a vector
+ * (n). */
 uint8_t kalman_new(size_t n, size_t m, size_t i, const double *a, size_t a_len, const double *b, size_t b_len,
                    const double *h, size_t h_len, const double *q, size_t q_len, const double *r, size_t r_len,
                    const double *x0, size_t x0_len, const double *p0, size_t p0_len,
@@ -107,17 +127,17 @@ uint8_t kalman_new(size_t n, size_t m, size_t i, const double *a, size_t a_len, 
 /* Position and speed with the step dt in seconds, the position measured: n = 2, m = 1, i = 1, so 19 numbers. */
 uint8_t kalman_position_velocity(double dt, double process_noise, double measurement_noise,
                                  double *filter, size_t filter_len);
-/* One step on, with the input u of i numbers. */
+/* One step on, with the input u (i): the state becomes A x + B u, the covariance A P At + Q. */
 uint8_t kalman_predict(size_t n, size_t m, size_t i, double *filter, size_t filter_len,
                        const double *u, size_t u_len);
-/* The measurement z of m numbers; innovation (m numbers) is z less H times the state before. Refused with 3: the
- * innovation covariance is rejected; then filter and innovation are unchanged. */
+/* Corrects the estimate by the measurement z (m); innovation (m) becomes z less H times the state before. Refused with
+ * 3: inversion rejects the innovation covariance; then filter and innovation are unchanged. */
 uint8_t kalman_update(size_t n, size_t m, size_t i, double *filter, size_t filter_len,
                       const double *z, size_t z_len, double *innovation, size_t innovation_len);
 /* The state x0 (n) and the covariance p0 (n x n) in place of the filter's. */
 uint8_t kalman_reset(size_t n, size_t m, size_t i, double *filter, size_t filter_len,
                      const double *x0, size_t x0_len, const double *p0, size_t p0_len);
-/* Copies of the state (n) and of the covariance (n x n). */
+/* Copies of the state, a vector (n), and of the covariance (n x n), into out. */
 uint8_t kalman_state(size_t n, size_t m, size_t i, const double *filter, size_t filter_len,
                      double *out, size_t out_len);
 uint8_t kalman_covariance(size_t n, size_t m, size_t i, const double *filter, size_t filter_len,
@@ -127,19 +147,21 @@ uint8_t kalman_covariance(size_t n, size_t m, size_t i, const double *filter, si
  *
  * A slot is two pairs, filtered and predicted for the next step; a pair is a state (n) and its covariance (n x n). The
  * slots lie in one slice of room * ESTIMATORS_SLOT(n) numbers, the smoothed pairs in one of room * ESTIMATORS_PAIR(n).
- * The caller keeps the count; with count = 0 the smoother is empty again.
+ * The caller keeps the count; with count = 0 the smoother is empty again. Each function is refused with 1: n outside 1
+ * to 4, room outside 1 to 64, a count above room, or a slice of another length. A refusal leaves everything unchanged.
  */
 #define ESTIMATORS_SLOT(n) (2 * ESTIMATORS_PAIR(n))
 
-/* One slot more, after those stored, and *count one more. Refused with 5: count is room. */
+/* One slot more, after those stored, and *count one more: filtered and predicted are pairs, ESTIMATORS_PAIR(n) numbers
+ * each. Refused with 5: count is room. */
 uint8_t rts_smoother_store_forward(size_t n, size_t room, size_t *count, double *slots, size_t slots_len,
                                    const double *filtered, size_t filtered_len,
                                    const double *predicted, size_t predicted_len);
-/* A copy of slot k, from 0, of ESTIMATORS_SLOT(n) numbers. Refused with 6: k is not below count. */
+/* A copy of slot k, from 0, into out, ESTIMATORS_SLOT(n) numbers. Refused with 6: k is not below count. */
 uint8_t rts_smoother_get_state(size_t n, size_t room, size_t count, const double *slots, size_t slots_len, size_t k,
                                double *out, size_t out_len);
-/* The smoothed pairs of the stored slots into output, and +0 past them. Refused with 2: no slot; with 3: a slot
- * before the last has a predicted covariance that inversion rejects. */
+/* The smoothed pairs of the stored slots into output, and +0 past them; transition is n x n. Refused with 2: no slot is
+ * stored; with 3: a slot before the last has a predicted covariance that inversion rejects. */
 uint8_t rts_smoother_smooth(size_t n, size_t room, size_t count, const double *slots, size_t slots_len,
                             const double *transition, size_t transition_len, double *output, size_t output_len);
 
