@@ -227,3 +227,27 @@ pub fn serve(driver: Driver) -> io::Result<()> {
     }
     output.flush()
 }
+
+/// The `main` of a driver that has a module for each family of calls, each with its own `call`.
+#[macro_export]
+macro_rules! driver {
+    () => {
+        fn call(
+            words: &mut $crate::protocol::Words,
+            answer: &mut $crate::protocol::Answer,
+        ) -> Result<(), $crate::protocol::Bad> {
+            use $crate::ops::{family, Family};
+            let op = words.word()?;
+            match family(op)? {
+                Family::Scalar => scalar::call(op, words, answer),
+                Family::Matrix => matrix::call(op, words, answer),
+                Family::Kalman => kalman::call(op, words, answer),
+                Family::RtsSmoother => rts_smoother::call(op, words, answer),
+            }
+        }
+
+        fn main() -> std::io::Result<()> {
+            $crate::protocol::serve(call)
+        }
+    };
+}
