@@ -7,8 +7,8 @@ use native.Mathlib.Nat.{suc-mul}
 use native.Mathlib.Omega.{arith}
 use lib.Dec.{leb, ltb, eqb}
 use lib.ListN.{length, take, drop, length-drop}
-use lib.Seq.{length-take-le, getD-take, getD-drop, take-add, take-all, drop-drop}
-use lib.Ieee.{Float, nan}
+use lib.Seq.{length-take-le, take-add, take-all, drop-drop}
+use lib.Ieee.{Float}
 use borrow.Author.Tests.{ltb-true, ltb-false, le-leb, lt-leb, eqb-true, eq-eqb}
 use Rattle.scalar.proofs.Choice.{and-left, and-right, cond-true}
 use Rattle.matrix.specs.declared.Status.{Status}
@@ -17,8 +17,7 @@ use Rattle.matrix.specs.Matrix.{Matrix, at}
 use Rattle.matrix.specs.Array.{cut, used, usedFlat, padRow, pad}
 use Rattle.matrix.specs.Kernel.{rowsOf, cellsOf, flatOfRows}
 use Rattle.matrix.specs.Result.{sized, shaped}
-use Rattle.matrix.specs.Table.{table}
-use Rattle.matrix.proofs.Tables.{length-table, table-ext, table-getD}
+use Rattle.matrix.proofs.Tables.{length-table, table-ext}
 use Rattle.matrix.proofs.Matrices.{shape-mat, mat-ext}
 use Rattle.matrix.proofs.Arrays.{length-cut, shape-used, used-pad, cut-padRow}
 use Rattle.matrix.proofs.Results.{Size, size-of, sized-true}
@@ -32,31 +31,32 @@ use Rattle.rts_smoother.specs.declared.Stored.{Stored}
 use Rattle.rts_smoother.specs.Buffer.{pairLength, stride, pairNumbers, slotNumbers, buffered}
 use Rattle.rts_smoother.specs.Record.{estimate, slotOf, slotOfRows, recordOf, stateResult, stateFrom, smoother, storable, storeForward, storedIn, storeOf, getStateRefusal, getState, writtenIn}
 use Rattle.rts_smoother.proofs.Records.{handed}
+use Rattle.rts_smoother.proofs.Sizes.{square-small}
 use Rattle.estimators.specs.Slices.{written}
-use Rattle.estimators.specs.Smoother.{numberOf, isPair, isSlot, storeIn, slotIn}
+use Rattle.estimators.specs.Smoother.{numberOf, isLong, isPair, isSlot, storeIn, slotIn}
+use Rattle.estimators.proofs.Ways.{part-numbers}
 
 -- ---- what a test that was passed says: a size n, and m numbers where k are asked for
 pub record Asked (n m k : ℕ) : Type 0 where
   pub size : Size n
   pub long : m ≡ k
 
-pub pair-of : (n m : ℕ) → isPair n m ≡ true → Asked n m (pairLength n)
-unfolding isPair
-pair-of n m e = record { size = size-of n (and-left _ _ e); long = eqb-true m (pairLength n) (and-right (sized n) _ e) }
+asked-of : (n k m : ℕ) → isLong n k m ≡ true → Asked n m k
+unfolding isLong
+asked-of n k m e = record { size = size-of n (and-left _ _ e); long = eqb-true m k (and-right (sized n) _ e) }
 
-pub slot-of : (n m : ℕ) → isSlot n m ≡ true → Asked n m (stride n)
-unfolding isSlot
-slot-of n m e = record { size = size-of n (and-left _ _ e); long = eqb-true m (stride n) (and-right (sized n) _ e) }
+-- ---- the test itself, where t is what the test of the size answers
+module _ (n : ℕ) {t : Bool} (e : t ≡ sized n) where
+  -- a pair is small, so no length that is asked for wraps
+  pub pair-few : t ≡ true → pairLength n ≤ 20
+  pair-few p = let s = size-of n (sym e ∙ p) in omega (arith, s, square-small (s .most))
+
+  -- u is what t was found to be, true or false
+  pub long-tested : (k m : ℕ) {u : Bool} → t ≡ u → u && eqb m k ≡ isLong n k m
+  unfolding isLong
+  long-tested k m p = ap (λ (u : Bool). u && eqb m k) (sym p ∙ e)
 
 -- ---- the numbers that are read are those of the slice
-part-numbers : (n k : ℕ) (b : List Float) → k + n ≤ length b → vectorAt n b k ≡ take n (drop k b)
-part-numbers n k b h =
-    let l = take n (drop k b) in
-    let long : length l ≡ n = length-take-le n (drop k b) (omega (arith, length-drop k b)) in
-    table-ext n (λ i. at b (k + i)) (λ i. at l i) (λ i p. sym (getD-take n (drop k b) i nan p ∙ getD-drop k b i nan))
-    ∙ ap (λ (m : ℕ). table m (λ i. at l i)) (sym long)
-    ∙ table-getD l nan
-
 rows-numbers : (r c k : ℕ) (b : List Float) → k + r * c ≤ length b → joined (matrixAt r c b k) ≡ take (r * c) (drop k b)
 rows-numbers zero c k b h = let none : 0 ≡ zero * c = omega arith in ap (λ (m : ℕ). take m (drop k b)) none
 rows-numbers (suc r) c k b h =
@@ -98,8 +98,8 @@ pub slot-read : {n : ℕ} (f g : List Float) (x y : List Float) (p q : List (Lis
     → s ≡ stateFrom n x p y q → (s .state .n ≡ n) × (slotNumbers (slotOf (s .state)) ≡ f ++ g)
 unfolding slotNumbers
 slot-read {n} f g x y p q s e ux up uy uq d =
-    let F = pair-of n (length f) (and-left _ _ e) in
-    let G = pair-of n (length g) (and-right (isPair n (length f)) _ e) in
+    let F = asked-of n _ (length f) (and-left _ _ e) in
+    let G = asked-of n _ (length g) (and-right (isPair n (length f)) _ e) in
     let S = recordOf n (slotOfRows n x p y q) in
     let is : s .state ≡ S = ap (λ (r : StateResult). r .state) (d ∙ ap (λ (t : Bool). stateResult (where-sized t S)) (sized-true (F .size))) in (
       ap (λ (r : FilteredState). r .n) is,
@@ -194,7 +194,7 @@ module _ (n T c : ℕ) (b : List Float) (k : ℕ) (o : List Float) (e : isSlot n
       let H = handed (smoother n T c) b k z refl in
       let long = length-take-le (stride n) (drop (k * stride n) b) (omega (arith, H .ends, length-drop (k * stride n) b)) in
       let is : g ≡ slot = p ∙ cond-true _ _ zero-asked in
-      let same : length o ≡ length g = slot-of n (length o) e .long ∙ sym (ap length is ∙ long) in
+      let same : length o ≡ length g = asked-of n _ (length o) e .long ∙ sym (ap length is ∙ long) in
       q ∙ cond-true _ _ (le-leb (length o) (length g) (omega (arith, same))) ∙ take-all (length o) g (omega (arith, same)) ∙ is ∙ sym (cond-true _ _ zero-asked)
 
 pub slot-unsized : (n T c : ℕ) (b : List Float) (k : ℕ) (o : List Float) → isSlot n (length o) ≡ false → left {R = ℕ} 1 o ≡ written o (slotIn n T c b k (length o))

@@ -5,8 +5,8 @@ use mathlib.Core.Bool.{Bool, true, false, _&&_, cond}
 use Prim.Native.Nat.{ℕ, _+_, _*_, _≤_}
 use native.Mathlib.Nat.{mul-le-mul}
 use native.Mathlib.Omega.{arith}
-use lib.ListN.{length, drop}
-use lib.Seq.{drop-length}
+use lib.ListN.{length, take, drop, length-drop}
+use lib.Seq.{length-take-le, getD-take, getD-drop, take-all, drop-length}
 use lib.Ieee.{Float, nan}
 use borrow.Author.Tests.{eqb-true, eq-eqb}
 use Rattle.scalar.proofs.Choice.{and-left, and-right}
@@ -86,11 +86,17 @@ pub rows-read : {r c : ℕ} (b : List Float) {m : List (List Float)} → Whole r
 rows-read {r} {c} b w p =
     ap (used r c) (matrix-read 0 b (w .rows) (w .cols) (omega (arith, w .long)) p) ∙ used-pad r c (rows r c b) (shape-mat r c _)
 
+-- the n numbers at place k are those of the slice
+pub part-numbers : (n k : ℕ) (b : List Float) → k + n ≤ length b → vectorAt n b k ≡ take n (drop k b)
+part-numbers n k b h =
+    let l = take n (drop k b) in
+    let long : length l ≡ n = length-take-le n (drop k b) (omega (arith, length-drop k b)) in
+    table-ext n (λ i. at b (k + i)) (λ i. at l i) (λ i p. sym (getD-take n (drop k b) i nan p ∙ getD-drop k b i nan))
+    ∙ ap (λ (m : ℕ). table m (λ i. at l i)) (sym long)
+    ∙ table-getD l nan
+
 whole-vector : (n : ℕ) (b : List Float) → length b ≡ n → vectorAt n b 0 ≡ b
-whole-vector n b e =
-    table-ext n (λ i. at b (0 + i)) (λ i. at b i) (λ i h. let same : 0 + i ≡ i = omega arith in ap (at b) same)
-    ∙ ap (λ (k : ℕ). table k (λ i. at b i)) (sym e)
-    ∙ table-getD b nan
+whole-vector n b e = part-numbers n 0 b (omega arith) ∙ take-all n b (omega arith)
 
 pub numbers-read : {n : ℕ} (b : List Float) {v : List Float} → Whole n 1 (length b)
     → v ≡ cellsOf (where-sized (sized n && room 0 n (length b)) (vectorAt n b 0)) → cut n v ≡ b

@@ -20,12 +20,16 @@ abbrev pub numberOf : Status → ℕ
 numberOf Done = 0
 numberOf (Refused k) = k
 
--- a slice of m numbers is just a pair, and just a slot
-unfoldable pub isPair : ℕ → ℕ → Bool
-isPair n m = sized n && eqb m (pairLength n)
+-- n is a size, and m numbers are just the k that are asked for
+unfoldable pub isLong : ℕ → ℕ → ℕ → Bool
+isLong n k m = sized n && eqb m k
 
-unfoldable pub isSlot : ℕ → ℕ → Bool
-isSlot n m = sized n && eqb m (stride n)
+-- a slice of m numbers is just a pair, and just a slot
+abbrev pub isPair : ℕ → ℕ → Bool
+isPair n m = isLong n (pairLength n) m
+
+abbrev pub isSlot : ℕ → ℕ → Bool
+isSlot n m = isLong n (stride n) m
 
 -- the count and the slots b with the pairs f and p as one slot more: refused with 1 for the sizes, with 5 where c is T
 abbrev pub storeIn : ℕ → ℕ → ℕ → List Float → List Float → List Float → Answer (ℕ × List Float)

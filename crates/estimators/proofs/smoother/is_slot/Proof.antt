@@ -1,36 +1,18 @@
 -- `is_slot` meets its contract: nothing wraps where n is a size.
-use mathlib.Core.Path.{sym, ap, _∙_}
-use mathlib.Core.Bool.{Bool, _&&_}
 use native.Mathlib.Omega.{arith}
-use lib.Dec.{eqb}
 use borrow.Author.Needs.{needs}
-use Rattle.matrix.proofs.Results.{size-of}
-use Rattle.rts_smoother.specs.Buffer.{stride}
-use Rattle.rts_smoother.proofs.Sizes.{square-small}
-use Rattle.estimators.specs.Smoother.{isSlot}
+use Rattle.estimators.proofs.Smoothers.{pair-few, long-tested}
 use Rattle.estimators.proofs.smoother.is_slot.Statement.{statement}
 use Rattle.estimators.proofs.smoother.is_slot.Tie as tie
-
-returns : tie.Need-returns
-unfolding isSlot
-returns c =
-    let a = c .before .before .args in
-    ap (λ (t : Bool). t && eqb (a .len) (stride (a .n))) (sym (c .if1 .taken) ∙ c .before .is-size .ensures)
-
-returns-2 : tie.Need-returns-2
-unfolding isSlot
-returns-2 c =
-    let a = c .before .before .args in
-    ap (λ (t : Bool). t && eqb (a .len) (stride (a .n))) (sym (c .if1 .left) ∙ c .before .is-size .ensures)
 
 pub is-slot-spec : {M : Type 1} → statement M
 is-slot-spec =
     tie.close
     (tie.spec
     (λ c κs. search needs)
-    (λ c. let s = size-of _ (sym (c .before .is-size .ensures) ∙ c .if1 .taken) in record { fits = omega (arith, s, square-small (s .most)) })
-    (λ c. let s = size-of _ (sym (c .before .is-size .ensures) ∙ c .if1 .taken) in record { fits = omega (arith, s, square-small (s .most)) })
-    (λ c. let s = size-of _ (sym (c .before .is-size .ensures) ∙ c .if1 .taken) in record { fits = omega (arith, s, square-small (s .most)) })
-    (λ c. let s = size-of _ (sym (c .before .is-size .ensures) ∙ c .if1 .taken) in record { fits = omega (arith, s, square-small (s .most)) })
-    returns
-    returns-2)
+    (λ c. record { fits = omega (arith, pair-few _ (c .before .is-size .ensures) (c .if1 .taken)) })
+    (λ c. record { fits = omega (arith, pair-few _ (c .before .is-size .ensures) (c .if1 .taken)) })
+    (λ c. record { fits = omega (arith, pair-few _ (c .before .is-size .ensures) (c .if1 .taken)) })
+    (λ c. record { fits = omega (arith, pair-few _ (c .before .is-size .ensures) (c .if1 .taken)) })
+    (λ c. long-tested _ (c .before .is-size .ensures) _ _ (c .if1 .taken))
+    (λ c. long-tested _ (c .before .is-size .ensures) _ _ (c .if1 .left)))
