@@ -42,8 +42,12 @@ modelOf f = record {
 abbrev pub modelFrom : ℕ → ℕ → ℕ → List (List Float) → List (List Float) → List (List Float) → List (List Float) → List (List Float) → Model
 modelFrom n m i a b h q r = record { n = n; m = m; i = i; a = used n n a; b = used n i b; h = used m n h; q = used n n q; r = used m m r }
 
+-- the estimate of n states in a record's numbers x and p
+abbrev pub estimateIn : ℕ → List Float → List Float → Estimate
+estimateIn n x p = record { state = cut n x; covariance = usedFlat n n p }
+
 abbrev pub estimateOf : KalmanFilter → Estimate
-estimateOf f = record { state = cut (f .n) (f .x); covariance = usedFlat (f .n) (f .n) (f .p) }
+estimateOf f = estimateIn (f .n) (f .x) (f .p)
 
 -- the record of a model and an estimate
 abbrev pub recordOf : Model → Estimate → KalmanFilter
@@ -116,10 +120,6 @@ moving n i A B Q = record { n = n; m = 0; i = i; a = A; b = B; h = []; q = Q; r 
 -- the parts of a model that an update reads
 abbrev pub measuring : ℕ → ℕ → Matrix → Matrix → Model
 measuring n m H R = record { n = n; m = m; i = 0; a = []; b = []; h = H; q = []; r = R }
-
--- the estimate of n states in a record's numbers x and p
-abbrev pub estimateIn : ℕ → List Float → List Float → Estimate
-estimateIn n x p = record { state = cut n x; covariance = usedFlat n n p }
 
 -- what a prediction finds: a refusal leaves x and p
 abbrev pub movedOf : List Float → List Float → Answer Estimate → Moved
