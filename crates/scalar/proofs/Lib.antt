@@ -1,3 +1,4 @@
 pub mod Choice
 pub mod Abs
 pub mod Epsilon
+pub mod Product
