@@ -12,8 +12,8 @@ use Rattle.matrix.specs.declared.Status.{Status}
 use Rattle.matrix.specs.declared.Status.the-variants.{Done, Refused}
 use Rattle.matrix.specs.declared.MatrixResult.{MatrixResult}
 use Rattle.matrix.specs.Answer.{Answer, refused, answered, mapped, where-sized, if-sized}
-use Rattle.matrix.specs.Matrix.{Vector, Matrix, mul, matvec, transpose, vecAdd}
-use Rattle.matrix.specs.Array.{cut, used, usedFlat, padRow, pad}
+use Rattle.matrix.specs.Matrix.{Vector, Matrix, mul, matvec, transpose, sub, identity, vecAdd}
+use Rattle.matrix.specs.Array.{cut, used, padRow, pad}
 use Rattle.matrix.specs.Kernel.{rowsOf, flatOfRows}
 use Rattle.matrix.specs.Result.{vectorResult, asMatrix, sized, shaped, sizeOrFour}
 use Rattle.matrix.proofs.Matrices.{Shape, shape-mul}
@@ -29,7 +29,7 @@ use Rattle.kalman.specs.declared.Updated.{Updated}
 use Rattle.kalman.specs.declared.Moved.{Moved}
 use Rattle.kalman.specs.declared.Found.{Found}
 use Rattle.kalman.specs.Kalman.{Estimate, Correction, propagated, gain, innovationOf, corrected, correction, update}
-use Rattle.kalman.specs.Record.{flat, modelFrom, measuring, estimateIn, movedOf, foundOf, recordOf, keeping, holding, noFilter, stepped, told, newOf, wellSized, fitting}
+use Rattle.kalman.specs.Record.{flat, modelFrom, measuring, estimateFrom, movedOf, found, foundOf, recordOf, keeping, holding, noFilter, stepped, told, newOf, wellSized, fitting}
 
 pub record Fits (n m i : ℕ) : Type 0 where
   pub states : sized n ≡ true
@@ -63,22 +63,30 @@ pub shape-propagated : (r n : ℕ) (A P Q : Matrix) → Shape r r (propagated r 
 unfolding propagated
 shape-propagated r n A P Q = shape-add r r (mul r n r (mul r n n A P) (transpose r n A)) Q
 
+pub shape-gain : (n m : ℕ) (P H W : Matrix) → Shape n m (gain n m P H W)
+unfolding gain
+shape-gain n m P H W = shape-mul n m m (mul n n m P (transpose m n H)) W
+
+pub shape-corrected : (n m : ℕ) (K H P : Matrix) → Shape n n (corrected n m K H P)
+unfolding corrected
+shape-corrected n m K H P = shape-mul n n n (sub n n (identity n) (mul n m n K H)) P
+
 -- y, k, s and rows are the innovation, the gain, the state and the covariance, each in its array
-pub correction-is : (n m : ℕ) (h p x z : List Float) (w : List (List Float)) {y s c : List Float} {k rows : List (List Float)}
-    → y ≡ padRow (innovationOf m n (usedFlat m n h) (cut n x) (cut m z))
-    → k ≡ pad (gain n m (usedFlat n n p) (usedFlat m n h) (used m m w))
+pub correction-is : (n m : ℕ) (h p w : List (List Float)) (x z : List Float) {y s c : List Float} {k rows : List (List Float)}
+    → y ≡ padRow (innovationOf m n (used m n h) (cut n x) (cut m z))
+    → k ≡ pad (gain n m (used n n p) (used m n h) (used m m w))
     → s ≡ padRow (vecAdd n (cut n x) (matvec n m (used n m k) (cut m y)))
-    → rows ≡ pad (corrected n m (used n m k) (usedFlat m n h) (usedFlat n n p))
+    → rows ≡ pad (corrected n m (used n m k) (used m n h) (used n n p))
     → c ≡ flatOfRows rows
     → _≡_ {A = Found} (record { answer = vectorResult Done y; x = s; p = c })
-    (foundOf x p (answered (correction (measuring n m (usedFlat m n h) []) (estimateIn n x p) (cut m z) (used m m w))))
-unfolding correction gain innovationOf
-correction-is n m h p x z w {y} {s} {c} {k} ey ek es er ec =
-    let P = usedFlat n n p in
-    let H = usedFlat m n h in
+    (found (correction (measuring n m (used m n h) []) (estimateFrom n x p) (cut m z) (used m m w)))
+unfolding correction innovationOf
+correction-is n m h p w x z {y} {s} {c} {k} ey ek es er ec =
+    let P = used n n p in
+    let H = used m n h in
     let K = gain n m P H (used m m w) in
     let Y = innovationOf m n H (cut n x) (cut m z) in
-    let isK : used n m k ≡ K = ap (used n m) ek ∙ used-pad n m K (shape-mul n m m (mul n n m P (transpose m n H)) (used m m w)) in
+    let isK : used n m k ≡ K = ap (used n m) ek ∙ used-pad n m K (shape-gain n m P H (used m m w)) in
     let isY : cut m y ≡ Y = ap (cut m) ey ∙ cut-padRow m Y (length-vecSub m (cut m z) (matvec m n H (cut n x))) in
     let isS : s ≡ padRow (vecAdd n (cut n x) (matvec n m K Y)) = es ∙ ap₂ (λ (A : Matrix) (v : Vector). padRow (vecAdd n (cut n x) (matvec n m A v))) isK isY in
     let isC : c ≡ flat (corrected n m K H P) = ec ∙ ap flatOfRows (er ∙ ap (λ (A : Matrix). pad (corrected n m A H P)) isK) in

@@ -49,6 +49,10 @@ estimateIn n x p = record { state = cut n x; covariance = usedFlat n n p }
 abbrev pub estimateOf : KalmanFilter → Estimate
 estimateOf f = estimateIn (f .n) (f .x) (f .p)
 
+-- the same in arrays of rows
+abbrev pub estimateFrom : ℕ → List Float → List (List Float) → Estimate
+estimateFrom n x p = record { state = cut n x; covariance = used n n p }
+
 -- the record of a model and an estimate
 abbrev pub recordOf : Model → Estimate → KalmanFilter
 recordOf M e = record {
@@ -122,14 +126,20 @@ abbrev pub measuring : ℕ → ℕ → Matrix → Matrix → Model
 measuring n m H R = record { n = n; m = m; i = 0; a = []; b = []; h = H; q = []; r = R }
 
 -- what a prediction finds: a refusal leaves x and p
+abbrev pub moved : Estimate → Moved
+moved e = record { answer = Done; x = padRow (e .state); p = flat (e .covariance) }
+
 abbrev pub movedOf : List Float → List Float → Answer Estimate → Moved
 movedOf x p (refused k) = record { answer = Refused k; x = x; p = p }
-movedOf x p (answered e) = record { answer = Done; x = padRow (e .state); p = flat (e .covariance) }
+movedOf x p (answered e) = moved e
 
 -- what an update finds
+abbrev pub found : Correction → Found
+found o = record { answer = asVector (answered (o .innovation)); x = padRow (o .estimate .state); p = flat (o .estimate .covariance) }
+
 abbrev pub foundOf : List Float → List Float → Answer Correction → Found
 foundOf x p (refused k) = record { answer = asVector (refused k); x = x; p = p }
-foundOf x p (answered o) = record { answer = asVector (answered (o .innovation)); x = padRow (o .estimate .state); p = flat (o .estimate .covariance) }
+foundOf x p (answered o) = found o
 
 abbrev pub updateOf : KalmanFilter → List Float → ℕ → Updated
 updateOf f z k = told f (if-sized (fitting (f .n) (f .m) (f .i) (f .m) k) (update (modelOf f) (estimateOf f) (cut (f .m) z)))

@@ -10,7 +10,7 @@ ghost use Rattle.matrix.specs.Result.{sized, asMatrix};
 ghost use Rattle.inverse.specs.Inverse.{inv as invOf};
 ghost use Rattle.inverse.specs.Two.{oneByOne};
 ghost use Rattle.kalman.specs.Kalman.{propagated as propagatedOf, gain as gainOf, innovationOf, corrected as correctedOf, correction, predict as predictOfModel, update as updateOfModel};
-ghost use Rattle.kalman.specs.Record.{flat, modelFrom, moving, measuring, estimateIn, movedOf, foundOf, noFilter, newOf, trackerOf, wellSized, fitting, stateOf, covarianceOf, predictOf, resetOf, updateOf, updateOneOf};
+ghost use Rattle.kalman.specs.Record.{flat, modelFrom, moving, measuring, estimateIn, estimateFrom, moved, movedOf, found, foundOf, noFilter, newOf, trackerOf, wellSized, fitting, stateOf, covarianceOf, predictOf, resetOf, updateOf, updateOneOf};
 use matrix::MatrixResult;
 use matrix::ScalarResult;
 use matrix::Status;
@@ -65,66 +65,70 @@ pub struct Found {
     pub p: [f64; 16],
 }
 
-// ---- the parts of a step, on the used parts of flat rows
+// ---- the parts of a step, on the used parts of rows. A result is made row by row: no matrix in between is stored.
 
 // A x + B u
 fn predicted_state<'a>(
-    a: &'a [f64; 16],
-    b: &'a [f64; 16],
+    a: &'a [[f64; 4]; 4],
+    b: &'a [[f64; 4]; 4],
     x: &'a [f64; 4],
     u: &'a [f64; 4],
     n: usize,
     i: usize,
 ) -> [f64; 4]
     requires { ⌜ (sized n ≡ true) × (sized i ≡ true) ⌝ }
-    ensures { λ v. ⌜ v ≡ padRow (vecAdd n (matvec n n (usedFlat n n (now (a .entry))) (cut n (now (x .entry)))) (matvec n i (usedFlat n i (now (b .entry))) (cut i (now (u .entry))))) ⌝ }
+    ensures { λ v. ⌜ v ≡ padRow (vecAdd n (matvec n n (used n n (now (a .entry))) (cut n (now (x .entry)))) (matvec n i (used n i (now (b .entry))) (cut i (now (u .entry))))) ⌝ }
 {
-    let am = kernel::from_flat(a);
-    let bm = kernel::from_flat(b);
-    let ax = kernel::product_vector(&am, x, n, n);
-    let bu = kernel::product_vector(&bm, u, n, i);
+    let ax = kernel::product_vector(a, x, n, n);
+    let bu = kernel::product_vector(b, u, n, i);
     kernel::vector_sum(ax, bu, n)
 }
 
 // A P Aᵀ + Q, for an A of r rows and n columns
 fn propagated<'a>(
-    a: &'a [f64; 16],
-    p: &'a [f64; 16],
-    q: &'a [f64; 16],
+    a: &'a [[f64; 4]; 4],
+    p: &'a [[f64; 4]; 4],
+    q: &'a [[f64; 4]; 4],
     r: usize,
     n: usize,
 ) -> [[f64; 4]; 4]
     requires { ⌜ (sized r ≡ true) × (sized n ≡ true) ⌝ }
-    ensures { λ v. ⌜ v ≡ pad (propagatedOf r n (usedFlat r n (now (a .entry))) (usedFlat n n (now (p .entry))) (usedFlat r r (now (q .entry)))) ⌝ }
+    ensures { λ v. ⌜ v ≡ pad (propagatedOf r n (used r n (now (a .entry))) (used n n (now (p .entry))) (used r r (now (q .entry)))) ⌝ }
 {
-    let am = kernel::from_flat(a);
-    let pm = kernel::from_flat(p);
-    let qm = kernel::from_flat(q);
-    let ap = kernel::product(&am, &pm, r, n, n);
-    let apat = kernel::product_transposed(&ap, &am, r, n, r);
-    kernel::sum(&apat, &qm, r, r)
+    let mut out = [[0.0; 4]; 4];
+    for i in 0..r {
+        let ap = kernel::row_product(a[i], p, n);
+        let apat = kernel::row_product_transposed(ap, a, n);
+        out[i] = matrix::kept(kernel::row_sum(apat, q[i]), r);
+    }
+    out
 }
 
 // z - H x
-fn innovation<'a>(h: &'a [f64; 16], x: &'a [f64; 4], z: [f64; 4], m: usize, n: usize) -> [f64; 4]
+fn innovation<'a>(
+    h: &'a [[f64; 4]; 4],
+    x: &'a [f64; 4],
+    z: [f64; 4],
+    m: usize,
+    n: usize,
+) -> [f64; 4]
     requires { ⌜ (sized m ≡ true) × (sized n ≡ true) ⌝ }
-    ensures { λ v. ⌜ v ≡ padRow (innovationOf m n (usedFlat m n (now (h .entry))) (cut n (now (x .entry))) (cut m z)) ⌝ }
+    ensures { λ v. ⌜ v ≡ padRow (innovationOf m n (used m n (now (h .entry))) (cut n (now (x .entry))) (cut m z)) ⌝ }
 {
-    let hm = kernel::from_flat(h);
-    let hx = kernel::product_vector(&hm, x, m, n);
+    let hx = kernel::product_vector(h, x, m, n);
     kernel::vector_difference(z, hx, m)
 }
 
 // The inverted innovation covariance H P Hᵀ + R. Refused with 3: inversion rejects it.
 fn inverted<'a>(
-    h: &'a [f64; 16],
-    p: &'a [f64; 16],
-    r: &'a [f64; 16],
+    h: &'a [[f64; 4]; 4],
+    p: &'a [[f64; 4]; 4],
+    r: &'a [[f64; 4]; 4],
     m: usize,
     n: usize,
 ) -> MatrixResult
     requires { ⌜ (sized m ≡ true) × (sized n ≡ true) ⌝ }
-    ensures { λ v. ⌜ v ≡ asMatrix (invOf m (propagatedOf m n (usedFlat m n (now (h .entry))) (usedFlat n n (now (p .entry))) (usedFlat m m (now (r .entry))))) ⌝ }
+    ensures { λ v. ⌜ v ≡ asMatrix (invOf m (propagatedOf m n (used m n (now (h .entry))) (used n n (now (p .entry))) (used m m (now (r .entry))))) ⌝ }
 {
     let s = propagated(h, p, r, m, n);
     inverse::inverse_of(&s, m)
@@ -132,19 +136,21 @@ fn inverted<'a>(
 
 // P Hᵀ × W
 fn gain<'a>(
-    p: &'a [f64; 16],
-    h: &'a [f64; 16],
+    p: &'a [[f64; 4]; 4],
+    h: &'a [[f64; 4]; 4],
     w: &'a [[f64; 4]; 4],
     n: usize,
     m: usize,
 ) -> [[f64; 4]; 4]
     requires { ⌜ (sized n ≡ true) × (sized m ≡ true) ⌝ }
-    ensures { λ v. ⌜ v ≡ pad (gainOf n m (usedFlat n n (now (p .entry))) (usedFlat m n (now (h .entry))) (used m m (now (w .entry)))) ⌝ }
+    ensures { λ v. ⌜ v ≡ pad (gainOf n m (used n n (now (p .entry))) (used m n (now (h .entry))) (used m m (now (w .entry)))) ⌝ }
 {
-    let pm = kernel::from_flat(p);
-    let hm = kernel::from_flat(h);
-    let pht = kernel::product_transposed(&pm, &hm, n, n, m);
-    kernel::product(&pht, w, n, m, m)
+    let mut out = [[0.0; 4]; 4];
+    for i in 0..n {
+        let pht = kernel::row_product_transposed(p[i], h, n);
+        out[i] = matrix::kept(kernel::row_product(pht, w, m), m);
+    }
+    out
 }
 
 // x + K y
@@ -165,19 +171,22 @@ fn corrected_state<'a>(
 // (I - K H) × P
 fn corrected<'a>(
     k: &'a [[f64; 4]; 4],
-    h: &'a [f64; 16],
-    p: &'a [f64; 16],
+    h: &'a [[f64; 4]; 4],
+    p: &'a [[f64; 4]; 4],
     n: usize,
     m: usize,
 ) -> [[f64; 4]; 4]
     requires { ⌜ (sized n ≡ true) × (sized m ≡ true) ⌝ }
-    ensures { λ v. ⌜ v ≡ pad (correctedOf n m (used n m (now (k .entry))) (usedFlat m n (now (h .entry))) (usedFlat n n (now (p .entry)))) ⌝ }
+    ensures { λ v. ⌜ v ≡ pad (correctedOf n m (used n m (now (k .entry))) (used m n (now (h .entry))) (used n n (now (p .entry)))) ⌝ }
 {
-    let hm = kernel::from_flat(h);
-    let pm = kernel::from_flat(p);
-    let kh = kernel::product(k, &hm, n, m, n);
-    let rest = kernel::identity_minus(&kh, n);
-    kernel::product(&rest, &pm, n, n, n)
+    let e = kernel::identity_rows();
+    let mut out = [[0.0; 4]; 4];
+    for i in 0..n {
+        let kh = kernel::row_product(k[i], h, m);
+        let rest = kernel::row_difference(e[i], kh);
+        out[i] = matrix::kept(kernel::row_product(rest, p, n), n);
+    }
+    out
 }
 
 // A refused update.
@@ -193,8 +202,8 @@ fn unchanged<'a>(number: u8, x: &'a [f64; 4], p: &'a [f64; 16]) -> Found
 
 // What the inverted innovation covariance w leads to.
 fn corrected_by<'a>(
-    h: &'a [f64; 16],
-    p: &'a [f64; 16],
+    h: &'a [[f64; 4]; 4],
+    p: &'a [[f64; 4]; 4],
     x: &'a [f64; 4],
     z: &'a [f64; 4],
     w: &'a [[f64; 4]; 4],
@@ -202,7 +211,7 @@ fn corrected_by<'a>(
     m: usize,
 ) -> Found
     requires { ⌜ (sized n ≡ true) × (sized m ≡ true) ⌝ }
-    ensures { λ v. ⌜ v ≡ foundOf (now (x .entry)) (now (p .entry)) (answered (correction (measuring n m (usedFlat m n (now (h .entry))) []) (estimateIn n (now (x .entry)) (now (p .entry))) (cut m (now (z .entry))) (used m m (now (w .entry))))) ⌝ }
+    ensures { λ v. ⌜ v ≡ found (correction (measuring n m (used m n (now (h .entry))) []) (estimateFrom n (now (x .entry)) (now (p .entry))) (cut m (now (z .entry))) (used m m (now (w .entry)))) ⌝ }
 {
     let y = innovation(h, x, *z, m, n);
     let k = gain(p, h, w, n, m);
@@ -219,7 +228,33 @@ fn corrected_by<'a>(
     }
 }
 
-// What an update finds where all sizes are right.
+// ---- a step of any sizes, where all are right
+
+fn moved_any<'a>(
+    a: &'a [f64; 16],
+    b: &'a [f64; 16],
+    q: &'a [f64; 16],
+    x: &'a [f64; 4],
+    p: &'a [f64; 16],
+    u: &'a [f64; 4],
+    n: usize,
+    i: usize,
+) -> Moved
+    requires { ⌜ (sized n ≡ true) × (sized i ≡ true) ⌝ }
+    ensures { λ v. ⌜ v ≡ moved (predictOfModel (moving n i (usedFlat n n (now (a .entry))) (usedFlat n i (now (b .entry))) (usedFlat n n (now (q .entry)))) (estimateIn n (now (x .entry)) (now (p .entry))) (cut i (now (u .entry)))) ⌝ }
+{
+    let am = kernel::from_flat(a);
+    let bm = kernel::from_flat(b);
+    let qm = kernel::from_flat(q);
+    let pm = kernel::from_flat(p);
+    let rows = propagated(&am, &pm, &qm, n, n);
+    Moved {
+        answer: Status::Done,
+        x: predicted_state(&am, &bm, x, u, n, i),
+        p: kernel::to_flat(&rows),
+    }
+}
+
 fn found_any<'a>(
     h: &'a [f64; 16],
     p: &'a [f64; 16],
@@ -232,12 +267,15 @@ fn found_any<'a>(
     requires { ⌜ (sized n ≡ true) × (sized m ≡ true) ⌝ }
     ensures { λ v. ⌜ v ≡ foundOf (now (x .entry)) (now (p .entry)) (updateOfModel (measuring n m (usedFlat m n (now (h .entry))) (usedFlat m m (now (r .entry)))) (estimateIn n (now (x .entry)) (now (p .entry))) (cut m (now (z .entry)))) ⌝ }
 {
-    let w = inverted(h, p, r, m, n);
+    let hm = kernel::from_flat(h);
+    let pm = kernel::from_flat(p);
+    let rm = kernel::from_flat(r);
+    let w = inverted(&hm, &pm, &rm, m, n);
     let status = w.status;
     match status {
         Status::Done => {
             let rows = matrix::rows_of(w);
-            corrected_by(h, p, x, z, &rows, n, m)
+            corrected_by(&hm, &pm, x, z, &rows, n, m)
         }
         Status::Refused(number) => unchanged(number, x, p),
     }
@@ -306,7 +344,7 @@ fn innovation_variance<'a>(h: &'a [f64; 16], p: &'a [f64; 16], r: &'a [f64; 16])
 
 // What the inverted innovation variance w leads to, with the measurement z.
 fn corrected_two<'a>(h: &'a [f64; 16], p: &'a [f64; 16], x: &'a [f64; 4], z: f64, w: f64) -> Found
-    ensures { λ v. ⌜ v ≡ foundOf (now (x .entry)) (now (p .entry)) (answered (correction (measuring 2 1 (usedFlat 1 2 (now (h .entry))) []) (estimateIn 2 (now (x .entry)) (now (p .entry))) (z ∷ []) (oneByOne w))) ⌝ }
+    ensures { λ v. ⌜ v ≡ found (correction (measuring 2 1 (usedFlat 1 2 (now (h .entry))) []) (estimateIn 2 (now (x .entry)) (now (p .entry))) (z ∷ []) (oneByOne w)) ⌝ }
 {
     let h0 = h[0];
     let h1 = h[1];
@@ -401,8 +439,7 @@ fn is_fitting(n: usize, m: usize, i: usize, asked: usize, k: usize) -> bool
     matrix::both(is_well_sized(n, m, i), asked == k)
 }
 
-// ---- a whole step, by its sizes. Only the general way takes the address of a copy: the compiler then keeps the
-// numbers of the straight-line way in registers, and a method copies its record once, field by field.
+// ---- a whole step, by its sizes
 
 // What a prediction finds with the input u of k numbers.
 fn predicted<'a>(
@@ -427,17 +464,7 @@ fn predicted<'a>(
                 p: covariance_two(a, p, q),
             }
         } else {
-            let am = *a;
-            let bm = *b;
-            let qm = *q;
-            let xm = *x;
-            let pm = *p;
-            let rows = propagated(&am, &pm, &qm, n, n);
-            Moved {
-                answer: Status::Done,
-                x: predicted_state(&am, &bm, &xm, u, n, i),
-                p: kernel::to_flat(&rows),
-            }
+            moved_any(a, b, q, x, p, u, n, i)
         }
     } else {
         Moved {
@@ -466,11 +493,7 @@ fn measured<'a>(
         if matrix::both(n == 2, m == 1) {
             found_two(h, p, r, x, z[0])
         } else {
-            let hm = *h;
-            let pm = *p;
-            let rm = *r;
-            let xm = *x;
-            found_any(&hm, &pm, &rm, &xm, z, n, m)
+            found_any(h, p, r, x, z, n, m)
         }
     } else {
         unchanged(1, x, p)
@@ -625,7 +648,7 @@ impl KalmanFilter {
         x0: [f64; 4],
         p0: [[f64; 4]; 4],
     ) -> Stepped
-        ensures { λ s. ⌜ s ≡ newOf (modelFrom n m i a b h q r) (record { state = cut n x0; covariance = used n n p0 }) ⌝ }
+        ensures { λ s. ⌜ s ≡ newOf (modelFrom n m i a b h q r) (estimateFrom n x0 p0) ⌝ }
     {
         if is_well_sized(n, m, i) {
             let filter = KalmanFilter {

@@ -12,8 +12,8 @@ use Rattle.matrix.specs.Matrix.{Vector, Matrix, at, row, cell, mat, sum,
 use Rattle.matrix.specs.Array.{cut, used, padRow, pad}
 use Rattle.matrix.specs.Result.{sizeOrFour}
 use Rattle.matrix.proofs.Tables.{length-table, getD-table, table-ext, table-getD, getD-padTo, map-table, Filling, filling-none, filling-more, filling-all}
-use Rattle.matrix.proofs.Matrices.{Shape, shape-mat, cell-mat, mul-ext, matvec-ext, transpose-ext, both-ext}
-use Rattle.matrix.proofs.Results.{Size, or-four-size}
+use Rattle.matrix.proofs.Matrices.{sum-ext, sums, Shape, shape-mat, cell-mat, mul-ext, matvec-ext, transpose-ext, both-ext}
+use Rattle.matrix.proofs.Results.{Size, or-four-size, or-four-most}
 
 -- ---- the used part of an array
 pub at-cut : (n : ℕ) (v : List Float) (i : ℕ) → i < n → at (cut n v) i ≡ at v i
@@ -94,6 +94,21 @@ kept-row c f v s e =
     kept-sized c v s
     ∙ ap (λ (u : List Float). padRow (cut c u)) e
     ∙ ap padRow (table-ext c (λ j. at (table 4 f) j) f (λ j h. getD-table 4 f j nan (le-trans h (s .most))))
+
+-- the same of four sums over k terms
+pub kept-sums : (c k : ℕ) (f : ℕ → ℕ → Float) (v : List Float) → Size c → Size k → v ≡ table 4 (λ j. sum (sizeOrFour k) (f j)) → padRow (cut (sizeOrFour c) v) ≡ padRow (table c (λ j. sum k (f j)))
+kept-sums c k f v s e p = kept-row c (λ j. sum k (f j)) v s (p ∙ ap (λ (n : ℕ). table 4 (λ j. sum n (f j))) (or-four-size e))
+
+-- ---- a combination of four rows is that of the rows R, if those are the four
+pub combination-is : (v : List Float) (R : ℕ → List Float) (k : ℕ) {r0 r1 r2 r3 s : List Float} → r0 ≡ R 0 → r1 ≡ R 1 → r2 ≡ R 2 → r3 ≡ R 3
+    → s ≡ table 4 (λ j. sum (sizeOrFour k) (λ t. at v t ⊗ cell (r0 ∷ r1 ∷ r2 ∷ r3 ∷ []) t j)) → s ≡ sums v R (sizeOrFour k)
+combination-is v R k e0 e1 e2 e3 p =
+    let n = sizeOrFour k in
+    p
+    ∙ (λ i. table 4 (λ j. sum n (λ t. at v t ⊗ cell (e0 i ∷ e1 i ∷ e2 i ∷ e3 i ∷ []) t j)))
+    ∙ table-ext 4 (λ j. sum n (λ t. at v t ⊗ cell (table 4 R) t j)) (λ j. sum n (λ t. at v t ⊗ at (R t) j))
+    (λ j h. sum-ext n (λ t. at v t ⊗ cell (table 4 R) t j) (λ t. at v t ⊗ at (R t) j)
+    (λ t l. ap (λ (r : List Float). at v t ⊗ at r j) (getD-table 4 R t [] (le-trans l (or-four-most k)))))
 
 -- ---- a loop over the rows of a result
 

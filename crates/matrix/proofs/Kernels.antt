@@ -9,17 +9,18 @@ use lib.Dec.{eqb}
 use lib.ListN.{length, getD, replicate}
 use lib.Ieee.{Float, nan}
 use Rattle.scalar.specs.Number.{_⊕_, _⊖_, _⊗_, +0, one}
+use Rattle.scalar.proofs.Product.{times-comm}
 use Rattle.matrix.specs.declared.Status.the-variants.{Done}
 use Rattle.matrix.specs.Answer.{where-sized}
 use Rattle.matrix.specs.Table.{table}
-use Rattle.matrix.specs.Matrix.{Vector, Matrix, row, cell, mat, sum, identity, transpose, add, sub, mul}
+use Rattle.matrix.specs.Matrix.{Vector, Matrix, at, row, cell, mat, sum, identity, transpose, add, sub, mul, matvec}
 use Rattle.matrix.specs.Array.{cut, used, padRow, pad, usedFlat}
-use Rattle.matrix.specs.Result.{matrixResult, vectorResult, asMatrix, asVector, sized, shaped}
+use Rattle.matrix.specs.Result.{matrixResult, vectorResult, asMatrix, asVector}
 use Rattle.matrix.specs.Kernel.{rowsOf, cellsOf, rowsOfFlat, flatOfRows}
 use Rattle.matrix.proofs.Tables.{getD-table, table-ext, table-getD}
 use Rattle.matrix.proofs.Matrices.{sum-ext, mat-ext, cell-mat, Shape, shape-mat}
-use Rattle.matrix.proofs.Arrays.{cell-used, both-used, cut-padRow, used-pad}
-use Rattle.matrix.proofs.Results.{size-of, shaped-square, where-ext, as-answered, as-refused, as-sized, matrix-answered, vector-answered}
+use Rattle.matrix.proofs.Arrays.{matvec-used, cell-used, both-used, cut-padRow, used-pad}
+use Rattle.matrix.proofs.Results.{as-answered, as-refused, as-sized, matrix-answered, vector-answered}
 
 -- ---- the used parts: their cells are those that the code reads
 pub add-used : (r c : ℕ) (a b : List (List Float)) → add r c (used r c a) (used r c b) ≡ mat r c (λ i j. cell a i j ⊕ cell b i j)
@@ -42,20 +43,17 @@ mul-transposed-used r k c a b =
     ap₂ (λ (x y : Float). x ⊗ y) (cell-used r k a i t h m)
     (cell-mat k c (λ p q. cell (used c k b) q p) t j m g ∙ cell-used c k b j t g m)))
 
+-- a times v is v times transposed a: a product does not depend on the order of its factors
+pub matvec-transposed-used : (r c : ℕ) (a : List (List Float)) (v : List Float) → matvec r c (used r c a) (cut c v) ≡ table r (λ i. sum c (λ t. at v t ⊗ cell a i t))
+matvec-transposed-used r c a v =
+    matvec-used r c a v
+    ∙ table-ext r (λ i. sum c (λ t. cell a i t ⊗ at v t)) (λ i. sum c (λ t. at v t ⊗ cell a i t))
+    (λ i h. sum-ext c (λ t. cell a i t ⊗ at v t) (λ t. at v t ⊗ cell a i t) (λ t g. times-comm (cell a i t) (at v t)))
+
 pub identity-used : (n : ℕ) → n ≤ 4 → used n n (identity 4) ≡ identity n
 unfolding identity used cut
 identity-used n h =
     mat-ext n n (λ i j. cell (identity 4) i j) (λ i j. cond (eqb i j) one +0) (λ i j hi hj. cell-mat 4 4 (λ p q. cond (eqb p q) one +0) i j (le-trans hi h) (le-trans hj h))
-
--- p is the identity of four rows, e, less a
-pub identity-minus-used : (n : ℕ) (a : List (List Float)) {e p : List (List Float)} → e ≡ identity 4 → p ≡ rowsOf (where-sized (shaped n n) (sub n n (used n n e) (used n n a)))
-    → p ≡ rowsOf (where-sized (sized n) (sub n n (identity n) (used n n a)))
-identity-minus-used n a {e} d q =
-    q
-    ∙ ap (λ (t : Bool). rowsOf (where-sized t (sub n n (used n n e) (used n n a)))) (shaped-square n)
-    ∙ ap rowsOf
-    (where-ext (sized n) _ _
-    (λ s. ap (λ (E : Matrix). sub n n E (used n n a)) (ap (used n n) d ∙ identity-used n (size-of n s .most))))
 
 -- ---- the two ways out of a kernel: t is the test
 module _ {t : Bool} where

@@ -5,3 +5,4 @@ pub mod Results
 pub mod Arrays
 pub mod Vectors
 pub mod Kernels
+pub mod RowWise

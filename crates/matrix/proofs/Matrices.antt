@@ -1,17 +1,18 @@
 -- Laws of sums and of matrices, for sizes that vary: shape, cells, and what a result reads. Assumes nothing.
 use mathlib.Core.Path.{_≡_, refl, sym, ap, ap₂, _∙_}
-use mathlib.Core.List.{List, [], _∷_}
+use mathlib.Core.List.{List, []}
 use mathlib.Core.Bool.{_&&_, cond}
 use Prim.Native.Nat.{ℕ, zero, suc, _+_, _≤_, _<_, suc-le-suc}
 use native.Mathlib.Nat.{le-of-lt, le-refl}
 use native.Mathlib.Numerals.{add-one}
 use native.Mathlib.Omega.{arith}
 use lib.Dec.{eqb}
-use lib.ListN.{length}
+use lib.ListN.{length, replicate}
 use lib.Ieee.{Float, nan, neg}
 use Rattle.scalar.specs.Number.{_⊕_, _⊗_, +0, one}
 use Rattle.matrix.specs.Table.{table}
 use Rattle.matrix.specs.Matrix.{Vector, Matrix, at, row, cell, mat, sumFrom, sum, mul, matvec, transpose, identity, filled, zeros, scale, negated, set}
+use Rattle.matrix.specs.Kernel.{plusScaled}
 use Rattle.matrix.proofs.Tables.{length-table, getD-table, table-ext}
 
 -- ---- sums
@@ -42,23 +43,21 @@ summing-all {s₀} {f} {k} {t} {s} e h =
     let same : t ≡ k = omega arith in
     e .is ∙ ap (λ (m : ℕ). sumFrom s₀ m f) same
 
--- Four such sums side by side, one for each column of a row of four; the terms of sum j are f j
-pub record RowSums (f : ℕ → ℕ → Float) (k t : ℕ) (s0 s1 s2 s3 : Float) : Type 0 where
-  pub in0 : Summing +0 (f 0) k t s0
-  pub in1 : Summing +0 (f 1) k t s1
-  pub in2 : Summing +0 (f 2) k t s2
-  pub in3 : Summing +0 (f 3) k t s3
+-- ---- v times four columns, written out term by term: term t of each sum is at v t times its number in R t
+abbrev pub sums : List Float → (ℕ → List Float) → ℕ → List Float
+sums v R n = table 4 (λ j. sum n (λ t. at v t ⊗ at (R t) j))
 
-pub row-sums-none : (f : ℕ → ℕ → Float) (k : ℕ) → RowSums f k 0 +0 +0 +0 +0
-row-sums-none f k = record { in0 = summing-none +0 (f 0) k; in1 = summing-none +0 (f 1) k; in2 = summing-none +0 (f 2) k; in3 = summing-none +0 (f 3) k }
+pub sums-none : (v : List Float) (R : ℕ → List Float) → replicate 4 +0 ≡ sums v R 0
+unfolding sumFrom
+sums-none v R = refl
 
-pub row-sums-more : {f : ℕ → ℕ → Float} {k t : ℕ} {s0 s1 s2 s3 : Float} → RowSums f k t s0 s1 s2 s3 → t < k
-    → RowSums f k (t + 1) (s0 ⊕ f 0 t) (s1 ⊕ f 1 t) (s2 ⊕ f 2 t) (s3 ⊕ f 3 t)
-row-sums-more e h = record { in0 = summing-more (e .in0) h refl; in1 = summing-more (e .in1) h refl; in2 = summing-more (e .in2) h refl; in3 = summing-more (e .in3) h refl }
+pub sums-more : (v : List Float) (R : ℕ → List Float) (t : ℕ) {s w u : List Float} → s ≡ sums v R t → w ≡ R t → u ≡ plusScaled s (at v t) w → u ≡ sums v R (suc t)
+unfolding sumFrom plusScaled
+sums-more v R t e r p = p ∙ ap₂ (λ (s w : List Float). plusScaled s (at v t) w) e r
 
-pub row-sums-all : {f : ℕ → ℕ → Float} {k t : ℕ} {s0 s1 s2 s3 : Float} → RowSums f k t s0 s1 s2 s3 → k ≤ t
-    → _≡_ {A = List Float} (s0 ∷ s1 ∷ s2 ∷ s3 ∷ []) (table 4 (λ j. sum k (f j)))
-row-sums-all e h i = summing-all (e .in0) h i ∷ summing-all (e .in1) h i ∷ summing-all (e .in2) h i ∷ summing-all (e .in3) h i ∷ []
+-- k terms are written out, and k is n
+pub sums-at : (v : List Float) (R : ℕ → List Float) (k n : ℕ) {s : List Float} → k ≡ n → s ≡ sums v R k → s ≡ sums v R n
+sums-at v R k n e p = p ∙ ap (sums v R) e
 
 -- ---- A has r rows of c numbers each
 pub record Shape (r c : ℕ) (A : Matrix) : Type 0 where

@@ -119,6 +119,14 @@ or-four-rest n a b c = pick (sized n) refl
     pick true e = let s = size-of n e in omega arith
     pick false e = refl
 
+pub or-four-most : (n : ℕ) → sizeOrFour n ≤ 4
+unfolding sizeOrFour
+or-four-most n = pick (sized n) refl
+  where
+    pick : (t : Bool) → sized n ≡ t → cond t n 4 ≤ 4
+    pick true e = size-of n e .most
+    pick false e = omega arith
+
 -- ---- the two ways out: g makes the call's result of an answer, and t is the test of its sizes
 module _ {A R : Type 0} (g : Answer A → R) {t : Bool} where
   pub as-answered : (x : A) {y : R} → t ≡ true → y ≡ g (answered x) → y ≡ g (where-sized t x)

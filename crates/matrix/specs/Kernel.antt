@@ -4,8 +4,9 @@ use mathlib.Core.Bool.{Bool, _&&_}
 use mathlib.Core.List.{List, []}
 use lib.Dec.{eqb}
 use lib.Ieee.{Float}
+use Rattle.scalar.specs.Number.{_⊕_, _⊗_}
 use Rattle.matrix.specs.Table.{table}
-use Rattle.matrix.specs.Matrix.{Vector, Matrix, cell}
+use Rattle.matrix.specs.Matrix.{Vector, Matrix, at, cell}
 use Rattle.matrix.specs.Array.{pad, padRow, usedFlat}
 use Rattle.matrix.specs.Answer.{Answer, refused, answered}
 use Rattle.matrix.specs.Result.{sized, shaped}
@@ -18,6 +19,10 @@ rowsOf (answered A) = pad A
 abbrev pub cellsOf : Answer Vector → List Float
 cellsOf (refused k) = padRow []
 cellsOf (answered v) = padRow v
+
+-- s + x v, of rows of four numbers
+unfoldable pub plusScaled : List Float → Float → List Float → List Float
+plusScaled s x v = table 4 (λ j. at s j ⊕ (x ⊗ at v j))
 
 -- ---- four rows of four that stand flat in a record
 

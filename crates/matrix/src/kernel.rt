@@ -5,24 +5,25 @@ use crate::is_shape;
 use crate::is_size;
 use crate::kept;
 ghost use mathlib.Core.Path.{_≡_};
+ghost use mathlib.Core.List.{[], _∷_};
 ghost use Prim.Native.Nat.{_+_, _≤_, _<_};
 ghost use Rattle.matrix.specs.Answer.{where-sized};
 ghost use Rattle.matrix.specs.Table.{table};
 ghost use Rattle.matrix.specs.Matrix.{at, cell, sum as sumOf, identity, transpose, add, sub, mul, matvec, vecAdd, vecSub};
 ghost use Rattle.matrix.specs.Array.{cut, used};
-ghost use Rattle.matrix.specs.Result.{sized, shaped, chained};
-ghost use Rattle.matrix.specs.Kernel.{rowsOf, cellsOf, rowsOfFlat, flatOfRows};
+ghost use Rattle.matrix.specs.Result.{sized, sizeOrFour, shaped, chained};
+ghost use Rattle.matrix.specs.Kernel.{rowsOf, cellsOf, plusScaled, rowsOfFlat, flatOfRows};
 ghost use Rattle.scalar.specs.Number.{_⊕_, _⊖_, _⊗_};
 
 // ---- rows: all four numbers
 
-fn row_sum(v: [f64; 4], w: [f64; 4]) -> [f64; 4]
+pub fn row_sum(v: [f64; 4], w: [f64; 4]) -> [f64; 4]
     ensures { λ r. ⌜ r ≡ table 4 (λ j. at v j ⊕ at w j) ⌝ }
 {
     [v[0] + w[0], v[1] + w[1], v[2] + w[2], v[3] + w[3]]
 }
 
-fn row_difference(v: [f64; 4], w: [f64; 4]) -> [f64; 4]
+pub fn row_difference(v: [f64; 4], w: [f64; 4]) -> [f64; 4]
     ensures { λ r. ⌜ r ≡ table 4 (λ j. at v j ⊖ at w j) ⌝ }
 {
     [v[0] - w[0], v[1] - w[1], v[2] - w[2], v[3] - w[3]]
@@ -43,66 +44,57 @@ fn column(a: &[[f64; 4]; 4], j: usize) -> [f64; 4]
     [a[0][j], a[1][j], a[2][j], a[3][j]]
 }
 
-// Row i of a times b, in all four columns: each sum starts at +0 and goes over the used k terms.
-fn product_row<'a>(a: &'a [[f64; 4]; 4], b: &'a [[f64; 4]; 4], i: usize, k: usize) -> [f64; 4]
-    requires { ⌜ (i < 4) × (k ≤ 4) ⌝ }
-    ensures { λ r. ⌜ r ≡ table 4 (λ j. sumOf k (λ t. cell (now (a .entry)) i t ⊗ cell (now (b .entry)) t j)) ⌝ }
+// s + x v
+fn row_plus_scaled(s: [f64; 4], x: f64, v: [f64; 4]) -> [f64; 4]
+    ensures { λ r. ⌜ r ≡ plusScaled s «x» v ⌝ }
 {
-    let mut c0 = 0.0;
-    let mut c1 = 0.0;
-    let mut c2 = 0.0;
-    let mut c3 = 0.0;
-    for t in 0..k {
-        let x = a[i][t];
-        c0 = c0 + x * b[t][0];
-        c1 = c1 + x * b[t][1];
-        c2 = c2 + x * b[t][2];
-        c3 = c3 + x * b[t][3];
-    }
-    [c0, c1, c2, c3]
+    [
+        s[0] + x * v[0],
+        s[1] + x * v[1],
+        s[2] + x * v[2],
+        s[3] + x * v[3],
+    ]
 }
 
-// The same of a times transposed b.
-fn product_transposed_row<'a>(
-    a: &'a [[f64; 4]; 4],
-    b: &'a [[f64; 4]; 4],
-    i: usize,
+// The rows r0 to r3, of which k are used, each times its number of v: a sum in each of the four columns, which starts
+// at +0 and goes over the used k terms. A k that is no size counts as 4.
+fn combination(
+    v: [f64; 4],
+    r0: [f64; 4],
+    r1: [f64; 4],
+    r2: [f64; 4],
+    r3: [f64; 4],
     k: usize,
 ) -> [f64; 4]
-    requires { ⌜ (i < 4) × (k ≤ 4) ⌝ }
-    ensures { λ r. ⌜ r ≡ table 4 (λ j. sumOf k (λ t. cell (now (a .entry)) i t ⊗ cell (now (b .entry)) j t)) ⌝ }
+    ensures { λ r. ⌜ r ≡ table 4 (λ j. sumOf (sizeOrFour k) (λ t. at v t ⊗ cell (r0 ∷ r1 ∷ r2 ∷ r3 ∷ []) t j)) ⌝ }
 {
-    let mut s0 = 0.0;
-    let mut s1 = 0.0;
-    let mut s2 = 0.0;
-    let mut s3 = 0.0;
-    for t in 0..k {
-        let x = a[i][t];
-        s0 = s0 + x * b[0][t];
-        s1 = s1 + x * b[1][t];
-        s2 = s2 + x * b[2][t];
-        s3 = s3 + x * b[3][t];
+    let s1 = row_plus_scaled([0.0; 4], v[0], r0);
+    if k == 1 {
+        return s1;
     }
-    [s0, s1, s2, s3]
+    let s2 = row_plus_scaled(s1, v[1], r1);
+    if k == 2 {
+        return s2;
+    }
+    let s3 = row_plus_scaled(s2, v[2], r2);
+    if k == 3 {
+        return s3;
+    }
+    row_plus_scaled(s3, v[3], r3)
 }
 
-// All four components of a times v: each sum starts at +0 and goes over the used c terms.
-fn column_sums<'a>(a: &'a [[f64; 4]; 4], v: &'a [f64; 4], c: usize) -> [f64; 4]
-    requires { ⌜ c ≤ 4 ⌝ }
-    ensures { λ r. ⌜ r ≡ table 4 (λ i. sumOf c (λ t. cell (now (a .entry)) i t ⊗ at (now (v .entry)) t)) ⌝ }
+// v, of k components, times b, in all four columns.
+pub fn row_product(v: [f64; 4], b: &[[f64; 4]; 4], k: usize) -> [f64; 4]
+    ensures { λ r. ⌜ r ≡ table 4 (λ j. sumOf (sizeOrFour k) (λ t. at v t ⊗ cell (now (b .entry)) t j)) ⌝ }
 {
-    let mut s0 = 0.0;
-    let mut s1 = 0.0;
-    let mut s2 = 0.0;
-    let mut s3 = 0.0;
-    for t in 0..c {
-        let x = v[t];
-        s0 = s0 + a[0][t] * x;
-        s1 = s1 + a[1][t] * x;
-        s2 = s2 + a[2][t] * x;
-        s3 = s3 + a[3][t] * x;
-    }
-    [s0, s1, s2, s3]
+    combination(v, b[0], b[1], b[2], b[3], k)
+}
+
+// v times transposed b.
+pub fn row_product_transposed(v: [f64; 4], b: &[[f64; 4]; 4], k: usize) -> [f64; 4]
+    ensures { λ r. ⌜ r ≡ table 4 (λ j. sumOf (sizeOrFour k) (λ t. at v t ⊗ cell (now (b .entry)) j t)) ⌝ }
+{
+    combination(v, column(b, 0), column(b, 1), column(b, 2), column(b, 3), k)
 }
 
 // ---- matrices
@@ -133,7 +125,7 @@ pub fn product<'a>(
     let mut out = [[0.0; 4]; 4];
     if is_chained(r, k, k, c) {
         for i in 0..r {
-            out[i] = kept(product_row(a, b, i, k), c);
+            out[i] = kept(row_product(a[i], b, k), c);
         }
     }
     out
@@ -152,7 +144,7 @@ pub fn product_transposed<'a>(
     let mut out = [[0.0; 4]; 4];
     if is_chained(r, k, k, c) {
         for i in 0..r {
-            out[i] = kept(product_transposed_row(a, b, i, k), c);
+            out[i] = kept(row_product_transposed(a[i], b, k), c);
         }
     }
     out
@@ -200,14 +192,6 @@ pub fn identity_rows() -> [[f64; 4]; 4]
     [r0, r1, r2, r3]
 }
 
-// The identity less a, of n rows and n columns.
-pub fn identity_minus(a: &[[f64; 4]; 4], n: usize) -> [[f64; 4]; 4]
-    ensures { λ p. ⌜ p ≡ rowsOf (where-sized (sized n) (sub n n (identity n) (used n n (now (a .entry))))) ⌝ }
-{
-    let e = identity_rows();
-    difference(&e, a, n, n)
-}
-
 // a, of r rows and c columns, transposed.
 pub fn transposed(a: &[[f64; 4]; 4], r: usize, c: usize) -> [[f64; 4]; 4]
     ensures { λ p. ⌜ p ≡ rowsOf (where-sized (shaped r c) (transpose r c (used r c (now (a .entry))))) ⌝ }
@@ -228,7 +212,7 @@ pub fn product_vector<'a>(a: &'a [[f64; 4]; 4], v: &'a [f64; 4], r: usize, n: us
     ensures { λ p. ⌜ p ≡ cellsOf (where-sized (shaped r n) (matvec r n (used r n (now (a .entry))) (cut n (now (v .entry))))) ⌝ }
 {
     if is_shape(r, n) {
-        kept(column_sums(a, v, n), r)
+        kept(row_product_transposed(*v, a, n), r)
     } else {
         [0.0; 4]
     }

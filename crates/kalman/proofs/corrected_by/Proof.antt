@@ -11,7 +11,7 @@ returns c =
     let k = x .before .before .before in
     let y = k .before in
     let a = y .before .before .args in
-    correction-is _ _ _ _ _ _ (a .w .now) (y .innovation .ensures) (k .gain .ensures) (x .corrected-state .ensures) (r .corrected .ensures) (c .to-flat .ensures)
+    correction-is _ _ (a .h .now) (a .p .now) (a .w .now) _ _ (y .innovation .ensures) (k .gain .ensures) (x .corrected-state .ensures) (r .corrected .ensures) (c .to-flat .ensures)
 
 pub corrected-by-spec : {M : Type 1} → statement M
 corrected-by-spec =

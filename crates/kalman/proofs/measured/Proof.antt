@@ -12,7 +12,7 @@ use Rattle.kalman.proofs.measured.Tie as tie
 
 found-any-requires : tie.Need-found-any-requires
 found-any-requires c κs =
-    let t = c .before .before .before .before .before .before .before .before .before .before in
+    let t = c .before .before in
     let h = fits _ _ _ _ _ (sym (t .before .is-fitting .ensures) ∙ t .if1 .taken) in
     (h .states, h .measurements)
 
@@ -29,7 +29,7 @@ returns c =
 
 returns-2 : tie.Need-returns-2
 returns-2 c =
-    let t = c .before .before .before .before .before .before .before .before .before .before .before in
+    let t = c .before .before .before in
     if-answered (foundOf _ _) _ (sym (t .before .is-fitting .ensures) ∙ t .if1 .taken) (c .found-any .ensures)
 
 returns-3 : tie.Need-returns-3

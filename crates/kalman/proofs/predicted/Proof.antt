@@ -4,7 +4,6 @@ use Prim.Native.Nat.{ℕ}
 use Rattle.matrix.specs.declared.Status.the-variants.{Done}
 use Rattle.matrix.specs.Matrix.{matvec, vecAdd}
 use Rattle.matrix.specs.Array.{cut, usedFlat, padRow}
-use Rattle.matrix.specs.Kernel.{flatOfRows}
 use Rattle.matrix.proofs.Results.{as-answered, as-refused}
 use Rattle.kalman.specs.Kalman.{predict, propagated}
 use Rattle.kalman.specs.Record.{flat, movedOf}
@@ -13,15 +12,9 @@ use borrow.Author.Needs.{needs}
 use Rattle.kalman.proofs.predicted.Statement.{statement}
 use Rattle.kalman.proofs.predicted.Tie as tie
 
-propagated-requires : tie.Need-propagated-requires
-propagated-requires c κs =
-    let t = c .before .before .before .before .before .before .before .before .before .before in
-    let h = fits _ _ _ _ _ (sym (t .before .is-fitting .ensures) ∙ t .if1 .taken) in
-    (h .states, h .states)
-
-predicted-state-requires : tie.Need-predicted-state-requires
-predicted-state-requires c κs =
-    let t = c .before .before .before .before .before .before .before .before .before .before .before .before .before .before in
+moved-any-requires : tie.Need-moved-any-requires
+moved-any-requires c κs =
+    let t = c .before .before in
     let h = fits _ _ _ _ _ (sym (t .before .is-fitting .ensures) ∙ t .if1 .taken) in
     (h .states, h .inputs)
 
@@ -38,13 +31,9 @@ returns c =
     as-answered (movedOf _ _) _ (sym (t .before .is-fitting .ensures) ∙ t .if1 .taken) (λ k. record { answer = Done; x = isX k; p = isP k })
 
 returns-2 : tie.Need-returns-2
-unfolding predict
 returns-2 c =
-    let s = c .before .before in
-    let p = s .before .before .before .before in
-    let t = p .before .before .before .before .before .before .before .before .before .before .before in
-    as-answered (movedOf _ _) _ (sym (t .before .is-fitting .ensures) ∙ t .if1 .taken)
-    (λ k. record { answer = Done; x = s .predicted-state .ensures k; p = (c .to-flat .ensures ∙ ap flatOfRows (p .propagated .ensures)) k })
+    let t = c .before .before .before in
+    as-answered (movedOf _ _) _ (sym (t .before .is-fitting .ensures) ∙ t .if1 .taken) (c .moved-any .ensures)
 
 returns-3 : tie.Need-returns-3
 returns-3 c =
@@ -59,9 +48,7 @@ predicted-spec =
     (λ c κs. search needs)
     (λ c κs. search needs)
     (λ c κs. search needs)
-    propagated-requires
-    predicted-state-requires
-    (λ c κs. search needs)
+    moved-any-requires
     returns
     returns-2
     returns-3)

@@ -7,9 +7,8 @@ use Rattle.kalman.proofs.predicted_state.Tie as tie
 
 returns : tie.Need-returns
 returns c =
-    let b = c .before .before .before .before .before in
-    let s = b .before .before in
-    state-is (size-of _ (s .pre .0)) (size-of _ (s .pre .1)) _ _ _ _ (b .before .from-flat .ensures) (b .from-flat2 .ensures) (c .before .before .before .product-vector .ensures) (c .before .product-vector2 .ensures) (c .vector-sum .ensures)
+    let s = c .before .before .before in
+    state-is (size-of _ (s .pre .0)) (size-of _ (s .pre .1)) _ _ _ _ (c .before .before .product-vector .ensures) (c .before .product-vector2 .ensures) (c .vector-sum .ensures)
 
 pub predicted-state-spec : {M : Type 1} → statement M
-predicted-state-spec = tie.close (tie.spec (λ c κs. search needs) (λ c κs. search needs) (λ c κs. search needs) (λ c κs. search needs) (λ c κs. search needs) returns)
+predicted-state-spec = tie.close (tie.spec (λ c κs. search needs) (λ c κs. search needs) (λ c κs. search needs) returns)

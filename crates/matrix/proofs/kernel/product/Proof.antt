@@ -4,7 +4,7 @@ use mathlib.Core.Path.{sym, _∙_}
 use Rattle.scalar.specs.Number.{_⊗_}
 use Rattle.matrix.specs.Table.{table}
 use Rattle.matrix.specs.Matrix.{cell, sum}
-use Rattle.matrix.proofs.Arrays.{Rows, rows-none, rows-more, rows-all, kept-row, mul-used}
+use Rattle.matrix.proofs.Arrays.{Rows, rows-none, rows-more, rows-all, kept-sums, mul-used}
 use Rattle.matrix.proofs.Results.{Chain, chained-sizes}
 use Rattle.matrix.proofs.Kernels.{rows-answered, rows-refused}
 use native.Mathlib.Omega.{arith}
@@ -22,8 +22,8 @@ loop-holds c = (chained-sizes _ _ _ _ (sym (c .before .is-chained .ensures) ∙ 
 
 loop-again : tie.Need-loop-again Inv-loop μ-loop
 loop-again c =
-    let v = c .before .before .before .loop .inv in
-    (v .0, rows-more (v .1) (omega arith) (omega arith) (c .kept .ensures ∙ kept-row _ _ _ (v .0 .cols) (c .before .product-row .ensures)))
+    let v = c .before .before .before .before .loop .inv in
+    (v .0, rows-more (v .1) (omega arith) (omega arith) (c .kept .ensures ∙ kept-sums _ _ _ _ (v .0 .cols) (v .0 .inner) (c .before .row-product .ensures)))
 
 returns : tie.Need-returns Inv-loop μ-loop
 returns c = rows-answered _ (sym (c .before .before .before .is-chained .ensures) ∙ c .before .before .if1 .taken) (rows-all (c .before .loop .inv .1) (omega arith) (mul-used _ _ _ _ _))
@@ -39,7 +39,9 @@ product-spec =
     μ-loop
     (λ c κs. tt)
     loop-holds
-    (λ c κs. omega arith)
+    (λ c. omega arith)
+    (λ c. omega arith)
+    (λ c κs. tt)
     (λ c κs. tt)
     (λ c. omega arith)
     (λ c. omega arith)
