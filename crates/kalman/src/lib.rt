@@ -6,7 +6,8 @@ ghost use mathlib.Core.List.{[], _∷_};
 ghost use Rattle.matrix.specs.Answer.{refused, answered, where-sized, if-sized};
 ghost use Rattle.matrix.specs.Matrix.{vecAdd, matvec};
 ghost use Rattle.matrix.specs.Array.{cut, used, usedFlat, padRow, pad};
-ghost use Rattle.matrix.specs.Result.{sized, asMatrix};
+ghost use Rattle.matrix.specs.Kernel.{rowsOf};
+ghost use Rattle.matrix.specs.Result.{sized, shaped, asMatrix};
 ghost use Rattle.inverse.specs.Inverse.{inv as invOf};
 ghost use Rattle.inverse.specs.Two.{oneByOne};
 ghost use Rattle.kalman.specs.Kalman.{propagated as propagatedOf, gain as gainOf, innovationOf, corrected as correctedOf, correction, predict as predictOfModel, update as updateOfModel};
@@ -134,21 +135,23 @@ fn inverted<'a>(
     inverse::inverse_of(&s, m)
 }
 
-// P Hᵀ × W
-fn gain<'a>(
+// P Hᵀ × W, for an H of m rows and n columns: a filter's gain, and a smoother's, whose H is the transition. All +0 where
+// n or m is no size.
+pub fn gain<'a>(
     p: &'a [[f64; 4]; 4],
     h: &'a [[f64; 4]; 4],
     w: &'a [[f64; 4]; 4],
     n: usize,
     m: usize,
 ) -> [[f64; 4]; 4]
-    requires { ⌜ (sized n ≡ true) × (sized m ≡ true) ⌝ }
-    ensures { λ v. ⌜ v ≡ pad (gainOf n m (used n n (now (p .entry))) (used m n (now (h .entry))) (used m m (now (w .entry)))) ⌝ }
+    ensures { λ v. ⌜ v ≡ rowsOf (where-sized (shaped n m) (gainOf n m (used n n (now (p .entry))) (used m n (now (h .entry))) (used m m (now (w .entry))))) ⌝ }
 {
     let mut out = [[0.0; 4]; 4];
-    for i in 0..n {
-        let pht = kernel::row_product_transposed(p[i], h, n);
-        out[i] = matrix::kept(kernel::row_product(pht, w, m), m);
+    if matrix::is_shape(n, m) {
+        for i in 0..n {
+            let pht = kernel::row_product_transposed(p[i], h, n);
+            out[i] = matrix::kept(kernel::row_product(pht, w, m), m);
+        }
     }
     out
 }

@@ -117,6 +117,10 @@ pub pad-rows : (r : ℕ) (f : ℕ → Vector) → padTo 4 (replicate 4 +0) (tabl
 unfolding pad
 pad-rows r f = ap (padTo 4 (replicate 4 +0)) (sym (map-table padRow r f))
 
+-- n rows are written out, and n is r: they make A, if A is the table of f
+pub rows-at : (n r : ℕ) (f : ℕ → Vector) {A : Matrix} {l : List (List Float)} → n ≡ r → l ≡ padTo 4 (replicate 4 +0) (table n (λ i. padRow (f i))) → A ≡ table r f → l ≡ pad A
+rows-at n r f e p q = p ∙ pad-rows n f ∙ ap (λ (m : ℕ). pad (table m f)) e ∙ ap pad (sym q)
+
 -- A loop has stored the first i of r rows, which are f: its invariant
 pub record Rows (f : ℕ → Vector) (r i : ℕ) (l : List (List Float)) : Type 0 where
   pub within : i ≤ r

@@ -13,13 +13,13 @@ use Rattle.scalar.proofs.Product.{times-comm}
 use Rattle.matrix.specs.declared.Status.the-variants.{Done}
 use Rattle.matrix.specs.Answer.{where-sized}
 use Rattle.matrix.specs.Table.{table}
-use Rattle.matrix.specs.Matrix.{Vector, Matrix, at, row, cell, mat, sum, identity, transpose, add, sub, mul, matvec}
+use Rattle.matrix.specs.Matrix.{Vector, Matrix, at, row, cell, mat, sum, identity, add, sub, matvec}
 use Rattle.matrix.specs.Array.{cut, used, padRow, pad, usedFlat}
 use Rattle.matrix.specs.Result.{matrixResult, vectorResult, asMatrix, asVector}
 use Rattle.matrix.specs.Kernel.{rowsOf, cellsOf, rowsOfFlat, flatOfRows}
 use Rattle.matrix.proofs.Tables.{getD-table, table-ext, table-getD}
 use Rattle.matrix.proofs.Matrices.{sum-ext, mat-ext, cell-mat, Shape, shape-mat}
-use Rattle.matrix.proofs.Arrays.{matvec-used, cell-used, both-used, cut-padRow, used-pad}
+use Rattle.matrix.proofs.Arrays.{matvec-used, both-used, cut-padRow, used-pad}
 use Rattle.matrix.proofs.Results.{as-answered, as-refused, as-sized, matrix-answered, vector-answered}
 
 -- ---- the used parts: their cells are those that the code reads
@@ -30,18 +30,6 @@ add-used r c a b = both-used (λ x y. x ⊕ y) r c a b
 pub sub-used : (r c : ℕ) (a b : List (List Float)) → sub r c (used r c a) (used r c b) ≡ mat r c (λ i j. cell a i j ⊖ cell b i j)
 unfolding sub
 sub-used r c a b = both-used (λ x y. x ⊖ y) r c a b
-
-pub mul-transposed-used : (r k c : ℕ) (a b : List (List Float))
-    → mul r k c (used r k a) (transpose c k (used c k b)) ≡ mat r c (λ i j. sum k (λ t. cell a i t ⊗ cell b j t))
-unfolding mul transpose
-mul-transposed-used r k c a b =
-    let B = transpose c k (used c k b) in
-    mat-ext r c (λ i j. sum k (λ t. cell (used r k a) i t ⊗ cell B t j)) (λ i j. sum k (λ t. cell a i t ⊗ cell b j t))
-    (λ i j h g.
-    sum-ext k (λ t. cell (used r k a) i t ⊗ cell B t j) (λ t. cell a i t ⊗ cell b j t)
-    (λ t m.
-    ap₂ (λ (x y : Float). x ⊗ y) (cell-used r k a i t h m)
-    (cell-mat k c (λ p q. cell (used c k b) q p) t j m g ∙ cell-used c k b j t g m)))
 
 -- a times v is v times transposed a: a product does not depend on the order of its factors
 pub matvec-transposed-used : (r c : ℕ) (a : List (List Float)) (v : List Float) → matvec r c (used r c a) (cut c v) ≡ table r (λ i. sum c (λ t. at v t ⊗ cell a i t))

@@ -111,12 +111,15 @@ pub or-four-at : (k n : ℕ) → sized k ≡ true → n ≡ k → k ≡ sizeOrFo
 unfolding sizeOrFour
 or-four-at k n s e = sym (cond-true k 4 s) ∙ ap sizeOrFour (sym e)
 
+pub is-four : {n : ℕ} → Size n → (n ≡ 1 → ⊥) → (n ≡ 2 → ⊥) → (n ≡ 3 → ⊥) → 4 ≡ n
+is-four {n} s a b c = omega arith
+
 pub or-four-rest : (n : ℕ) → (n ≡ 1 → ⊥) → (n ≡ 2 → ⊥) → (n ≡ 3 → ⊥) → 4 ≡ sizeOrFour n
 unfolding sizeOrFour
 or-four-rest n a b c = pick (sized n) refl
   where
     pick : (t : Bool) → sized n ≡ t → 4 ≡ cond t n 4
-    pick true e = let s = size-of n e in omega arith
+    pick true e = is-four (size-of n e) a b c
     pick false e = refl
 
 pub or-four-most : (n : ℕ) → sizeOrFour n ≤ 4

@@ -36,6 +36,10 @@ row-made r c f g i l C p e = record {
       ∙ sym (getD-table r (λ k. table c (λ j. g k j)) i [] l);
 }
 
+-- the matrix under another name
+pub row-renamed : {r c : ℕ} {A B : Matrix} {i : ℕ} {v : List Float} → A ≡ B → RowOf r c A i v → RowOf r c B i v
+row-renamed {r} {c} {A} {B} {i} {v} e a = record { within = a .within; size = a .size; is = a .is ∙ ap (λ (X : Matrix). row X i) e }
+
 -- ---- the rows to begin with
 pub row-of-used : {r c : ℕ} {i : ℕ} (a : List (List Float)) → i < r → Size c → RowOf r c (used r c a) i (row a i)
 row-of-used {r} {c} {i} a h C = record { within = h; size = C; is = sym (row-used r c a i h) }

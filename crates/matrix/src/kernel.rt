@@ -122,32 +122,25 @@ pub fn product<'a>(
 ) -> [[f64; 4]; 4]
     ensures { λ p. ⌜ p ≡ rowsOf (where-sized (chained r k k c) (mul r k c (used r k (now (a .entry))) (used k c (now (b .entry))))) ⌝ }
 {
-    let mut out = [[0.0; 4]; 4];
+    let none = [0.0; 4];
     if is_chained(r, k, k, c) {
-        for i in 0..r {
-            out[i] = kept(row_product(a[i], b, k), c);
+        let r0 = kept(row_product(a[0], b, k), c);
+        if r == 1 {
+            return [r0, none, none, none];
         }
-    }
-    out
-}
-
-// a, of r rows and k columns, times transposed b, of c rows and k columns.
-pub fn product_transposed<'a>(
-    a: &'a [[f64; 4]; 4],
-    b: &'a [[f64; 4]; 4],
-    r: usize,
-    k: usize,
-    c: usize,
-) -> [[f64; 4]; 4]
-    ensures { λ p. ⌜ p ≡ rowsOf (where-sized (chained r k k c) (mul r k c (used r k (now (a .entry))) (transpose c k (used c k (now (b .entry)))))) ⌝ }
-{
-    let mut out = [[0.0; 4]; 4];
-    if is_chained(r, k, k, c) {
-        for i in 0..r {
-            out[i] = kept(row_product_transposed(a[i], b, k), c);
+        let r1 = kept(row_product(a[1], b, k), c);
+        if r == 2 {
+            return [r0, r1, none, none];
         }
+        let r2 = kept(row_product(a[2], b, k), c);
+        if r == 3 {
+            return [r0, r1, r2, none];
+        }
+        let r3 = kept(row_product(a[3], b, k), c);
+        [r0, r1, r2, r3]
+    } else {
+        [none, none, none, none]
     }
-    out
 }
 
 // a + b, both of r rows and c columns.

@@ -130,26 +130,20 @@ pub fn is_applicable(r: usize, c: usize, n: usize) -> bool
     both(is_shape(r, c), c == n)
 }
 
-// The first c numbers of v, then +0; all four where c is no size. Each test overwrites the row: the compiler
-// then chooses number by number, without a branch, and stores the row in two halves.
+// The first c numbers of v, then +0; all four where c is no size.
 pub fn kept(v: [f64; 4], c: usize) -> [f64; 4]
     ensures { λ r. ⌜ r ≡ padRow (cut (sizeOrFour c) v) ⌝ }
 {
-    let w = v[0];
-    let x = v[1];
-    let y = v[2];
-    let z = v[3];
-    let mut r = [w, x, y, z];
     if c == 1 {
-        r = [w, 0.0, 0.0, 0.0];
+        return [v[0], 0.0, 0.0, 0.0];
     }
     if c == 2 {
-        r = [w, x, 0.0, 0.0];
+        return [v[0], v[1], 0.0, 0.0];
     }
     if c == 3 {
-        r = [w, x, y, 0.0];
+        return [v[0], v[1], v[2], 0.0];
     }
-    r
+    [v[0], v[1], v[2], v[3]]
 }
 
 // ---- the product

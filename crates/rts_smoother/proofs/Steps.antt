@@ -13,18 +13,18 @@ use Rattle.matrix.specs.Answer.{answered, mapped, where-sized, if-sized}
 use Rattle.matrix.specs.Matrix.{Vector, Matrix, mul, matvec, add, sub, transpose, vecAdd, vecSub}
 use Rattle.matrix.specs.Array.{cut, used, padRow, pad}
 use Rattle.matrix.specs.Kernel.{rowsOf, cellsOf}
-use Rattle.matrix.specs.Result.{asMatrix, sized, shaped, chained}
+use Rattle.matrix.specs.Result.{asMatrix, sized, shaped}
 use Rattle.matrix.proofs.Answers.{differ, same-answer}
-use Rattle.matrix.proofs.Matrices.{Shape, shape-mul}
+use Rattle.matrix.proofs.Matrices.{Shape}
 use Rattle.matrix.proofs.Vectors.{length-matvec, length-vecSub}
 use Rattle.matrix.proofs.Arrays.{used-pad, cut-padRow}
-use Rattle.matrix.proofs.Results.{Size, sized-true, shaped-true, chained-true}
-use Rattle.matrix.proofs.Kernels.{rows-sized, cells-sized, used-sized, cut-sized, shape-sub}
+use Rattle.matrix.proofs.Results.{Size, sized-true, shaped-true}
+use Rattle.matrix.proofs.Kernels.{cells-sized, used-sized, cut-sized, shape-sub, shape-add}
 use Rattle.buffer.specs.Buffer.{vectorAt, matrixAt, room}
 use Rattle.buffer.proofs.Calls.{vector-read, matrix-read}
 use Rattle.inverse.specs.Inverse.{inv}
 use Rattle.kalman.specs.Kalman.{gain}
-use Rattle.kalman.proofs.Records.{was-answered, was-refused}
+use Rattle.kalman.proofs.Records.{shape-gain, was-answered, was-refused}
 use Rattle.rts_smoother.specs.Smoother.{Slot, slotGain, movedState, movedCovariance}
 use Rattle.rts_smoother.specs.Buffer.{pairLength, stride, pairAt, slotFrom}
 use Rattle.rts_smoother.specs.Record.{statusOf, Stepped, stateMoved, covarianceMoved}
@@ -38,16 +38,6 @@ pub used-of : {n : ℕ} {A : Matrix} {a : List (List Float)} → Shape n n A →
 used-of {n} {A} s e = ap (used n n) e ∙ used-pad n n A s
 
 module _ {n : ℕ} (N : Size n) where
-  -- P Fᵀ × W
-  pub gain-is : (c f w : List (List Float)) {pft g : List (List Float)}
-      → pft ≡ rowsOf (where-sized (chained n n n n) (mul n n n (used n n c) (transpose n n (used n n f))))
-      → g ≡ rowsOf (where-sized (chained n n n n) (mul n n n (used n n pft) (used n n w)))
-      → g ≡ pad (gain n n (used n n c) (used n n f) (used n n w))
-  unfolding gain
-  gain-is c f w epft eg =
-      rows-sized _ (chained-true N N N) eg
-      ∙ ap (λ (X : Matrix). pad (mul n n n X (used n n w))) (used-sized (shape-mul n n n (used n n c) (transpose n n (used n n f))) (chained-true N N N) epft)
-
   -- x + G d
   pub state-is : (x y : List Float) (g : List (List Float)) (next : List Float) {d gd v : List Float}
       → d ≡ cellsOf (where-sized (sized n) (vecSub n (cut n next) (cut n y)))
@@ -61,21 +51,17 @@ module _ {n : ℕ} (N : Size n) where
       (cut-sized _ (length-matvec n n (used n n g) (cut n d)) (shaped-true N N) egd
       ∙ ap (matvec n n (used n n g)) (cut-sized _ (length-vecSub n (cut n next) (cut n y)) (sized-true N) ed))
 
-  -- P + (G D) Gᵀ
-  pub covariance-is : (c q g next : List (List Float)) {d gd e v : List (List Float)}
-      → d ≡ rowsOf (where-sized (shaped n n) (sub n n (used n n next) (used n n q)))
-      → gd ≡ rowsOf (where-sized (chained n n n n) (mul n n n (used n n g) (used n n d)))
-      → e ≡ rowsOf (where-sized (chained n n n n) (mul n n n (used n n gd) (transpose n n (used n n g))))
-      → v ≡ rowsOf (where-sized (shaped n n) (add n n (used n n c) (used n n e)))
-      → v ≡ pad (covarianceMoved n (used n n c) (used n n q) (used n n g) (used n n next))
+  -- P + (G D) Gᵀ, where the code has D in d
+  pub covariance-is : (c q g next : List (List Float)) {d : List (List Float)} → d ≡ rowsOf (where-sized (shaped n n) (sub n n (used n n next) (used n n q)))
+      → add n n (used n n c) (mul n n n (mul n n n (used n n g) (used n n d)) (transpose n n (used n n g))) ≡ covarianceMoved n (used n n c) (used n n q) (used n n g) (used n n next)
   unfolding movedCovariance
-  covariance-is c q g next {d} {gd} ed egd ee ev =
-      let G = used n n g in
-      rows-sized _ (shaped-true N N) ev
-      ∙ ap (λ (X : Matrix). pad (add n n (used n n c) X))
-      (used-sized (shape-mul n n n (used n n gd) (transpose n n G)) (chained-true N N N) ee
-      ∙ ap (λ (X : Matrix). mul n n n X (transpose n n G))
-      (used-sized (shape-mul n n n G (used n n d)) (chained-true N N N) egd ∙ ap (mul n n n G) (used-sized (shape-sub n n (used n n next) (used n n q)) (shaped-true N N) ed)))
+  covariance-is c q g next e =
+      ap (λ (D : Matrix). add n n (used n n c) (mul n n n (mul n n n (used n n g) D) (transpose n n (used n n g))))
+      (used-sized (shape-sub n n (used n n next) (used n n q)) (shaped-true N N) e)
+
+pub shape-moved : (n : ℕ) (P Q G next : Matrix) → Shape n n (covarianceMoved n P Q G next)
+unfolding movedCovariance
+shape-moved n P Q G next = shape-add n n P (mul n n n (mul n n n G (sub n n next Q)) (transpose n n G))
 
 -- ---- the slot from number k on of b, by what the code reads of it: q and w are its predicted covariance and that inverted
 module _ {n : ℕ} (N : Size n) (b : List Float) (k : ℕ) (h : k + stride n ≤ length b) (F : Matrix) {q : List (List Float)}
@@ -100,14 +86,14 @@ module _ {n : ℕ} (N : Size n) (b : List Float) (k : ℕ) (h : k + stride n ≤
       → y ≡ padRow (stateMoved n (cut n u) (cut n v) (used n n g) (cut n x))
       → m ≡ pad (covarianceMoved n (used n n c) (used n n q) (used n n g) (used n n p))
       → Stepped n F s x p y m Done
-  unfolding slotGain gain movedState movedCovariance slotFrom pairAt
+  unfolding slotGain movedState movedCovariance slotFrom pairAt
   step-done {rows} {c} {g} {u} {v} d er ec eu ev eg ey em =
       let S = slotted n b k in
       let P : used n n c ≡ s .filtered .covariance = used-of (S .filtered .covariance) (matrix-read (k + n) b N N (omega arith) ec) in
       let a : slotGain n F s ≡ answered (used n n g) =
       ap (mapped (gain n n (s .filtered .covariance) F))
       (was-answered n (s .predicted .covariance) w inverse d ∙ ap (λ (r : List (List Float)). answered (used n n r)) (sym er))
-      ∙ ap answered (sym (used-of (shape-mul n n n _ _) eg ∙ ap (λ (A : Matrix). gain n n A F (used n n rows)) P)) in
+      ∙ ap answered (sym (used-of (shape-gain n n (used n n c) F (used n n rows)) eg ∙ ap (λ (A : Matrix). gain n n A F (used n n rows)) P)) in
       record {
         told = ap statusOf (sym a);
         state = λ G i.

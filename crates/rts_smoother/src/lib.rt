@@ -296,20 +296,6 @@ impl RtsSmoother {
 
 // ---- one slot; operations and order are those of rts_smoother.rs
 
-// P Fᵀ × W, with P the covariance c.
-fn slot_gain<'a>(
-    c: &'a [[f64; 4]; 4],
-    f: &'a [[f64; 4]; 4],
-    w: &'a [[f64; 4]; 4],
-    n: usize,
-) -> [[f64; 4]; 4]
-    requires { ⌜ sized n ≡ true ⌝ }
-    ensures { λ g. ⌜ g ≡ pad (gain n n (used n n (now (c .entry))) (used n n (now (f .entry))) (used n n (now (w .entry)))) ⌝ }
-{
-    let pft = kernel::product_transposed(c, f, n, n, n);
-    kernel::product(&pft, w, n, n, n)
-}
-
 // x + G d, with d the next slot's smoothed state less the predicted state y.
 fn moved_state<'a>(
     x: &'a [f64; 4],
@@ -338,9 +324,13 @@ fn moved_covariance<'a>(
     ensures { λ v. ⌜ v ≡ pad (covarianceMoved n (used n n (now (c .entry))) (used n n (now (q .entry))) (used n n (now (g .entry))) (used n n (now (next .entry)))) ⌝ }
 {
     let d = kernel::difference(next, q, n, n);
-    let gd = kernel::product(g, &d, n, n, n);
-    let e = kernel::product_transposed(&gd, g, n, n, n);
-    kernel::sum(c, &e, n, n)
+    let mut out = [[0.0; 4]; 4];
+    for i in 0..n {
+        let gd = kernel::row_product(g[i], &d, n);
+        let gdgt = kernel::row_product_transposed(gd, g, n);
+        out[i] = matrix::kept(kernel::row_sum(c[i], gdgt), n);
+    }
+    out
 }
 
 // ---- a slot of size 1 or 2, straight-line: x and p, the next slot's smoothed pair, become this slot's. Each sum starts
@@ -511,7 +501,7 @@ fn step<'a>(
         Status::Done => {
             let rows = matrix::rows_of(w);
             let c = buffer::matrix_at(slots, k + n, n, n);
-            let g = slot_gain(&c, f, &rows, n);
+            let g = kalman::gain(&c, f, &rows, n, n);
             let state = buffer::vector_at(slots, k, n);
             let y = buffer::vector_at(slots, k + (n + n * n), n);
             *x = moved_state(&state, &y, &g, x, n);

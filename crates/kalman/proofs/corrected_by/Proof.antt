@@ -1,4 +1,6 @@
 -- `corrected_by` meets its contract.
+use Rattle.matrix.proofs.Results.{size-of, shaped-true}
+use Rattle.matrix.proofs.Kernels.{rows-sized}
 use Rattle.kalman.proofs.Records.{correction-is}
 use borrow.Author.Needs.{needs}
 use Rattle.kalman.proofs.corrected_by.Statement.{statement}
@@ -10,8 +12,10 @@ returns c =
     let x = r .before .before in
     let k = x .before .before .before in
     let y = k .before in
-    let a = y .before .before .args in
-    correction-is _ _ (a .h .now) (a .p .now) (a .w .now) _ _ (y .innovation .ensures) (k .gain .ensures) (x .corrected-state .ensures) (r .corrected .ensures) (c .to-flat .ensures)
+    let s = y .before .before in
+    let a = s .args in
+    let sizes = shaped-true (size-of _ (s .pre .0)) (size-of _ (s .pre .1)) in
+    correction-is _ _ (a .h .now) (a .p .now) (a .w .now) _ _ (y .innovation .ensures) (rows-sized _ sizes (k .gain .ensures)) (x .corrected-state .ensures) (r .corrected .ensures) (c .to-flat .ensures)
 
 pub corrected-by-spec : {M : Type 1} → statement M
 corrected-by-spec =

@@ -1,7 +1,6 @@
--- `kept` meets its contract: each test that passes writes the row out for one size, and the first row is for all others.
+-- `kept` meets its contract: each test that passes writes the row out for one size, and the last row is for all others.
 use native.Mathlib.Omega.{arith}
-use mathlib.Core.Logic.{⊎-elim}
-use mathlib.Core.Path.{refl, _∙_}
+use mathlib.Core.Path.{refl}
 use Rattle.matrix.specs.Array.{cut}
 use Rattle.matrix.specs.Result.{sized}
 use Rattle.matrix.proofs.Results.{or-four-at, or-four-rest}
@@ -11,20 +10,27 @@ use Rattle.matrix.proofs.kept.Tie as tie
 
 returns : tie.Need-returns
 unfolding cut sized
-returns c = kept-at 3 _ (c .before .before .before .args .t1) (or-four-at 3 _ refl (c .if3 .taken))
+returns c = kept-at 1 _ (c .before .args .t1) (or-four-at 1 _ refl (c .if1 .taken))
 
 returns-2 : tie.Need-returns-2
 unfolding cut sized
-returns-2 c =
-    let v = c .before .before .before .args .t1 in
-    ⊎-elim
-    (λ w. w .1 ∙ kept-at 2 _ v (or-four-at 2 _ refl (w .0 .taken)))
-    (λ w. w .1
-    ∙ ⊎-elim
-    (λ u. u .1 ∙ kept-at 1 _ v (or-four-at 1 _ refl (u .0 .taken)))
-    (λ u. u .1 ∙ kept-at 4 _ v (or-four-rest _ (u .0 .left) (w .0 .left) (c .if3 .left)))
-    (c .before .before .if1 .came))
-    (c .before .if2 .came)
+returns-2 c = kept-at 2 _ (c .before .before .args .t1) (or-four-at 2 _ refl (c .if2 .taken))
+
+returns-3 : tie.Need-returns-3
+unfolding cut sized
+returns-3 c = kept-at 3 _ (c .before .before .before .args .t1) (or-four-at 3 _ refl (c .if3 .taken))
+
+returns-4 : tie.Need-returns-4
+unfolding cut
+returns-4 c =
+    let a = c .before .before .before .args in
+    kept-at 4 _ (a .t1) (or-four-rest _ (c .before .before .if1 .left) (c .before .if2 .left) (c .if3 .left))
 
 pub kept-spec : {M : Type 1} → statement M
-kept-spec = tie.close (tie.spec (λ c. omega arith) (λ c. omega arith) (λ c. omega arith) (λ c. omega arith) returns returns-2)
+kept-spec =
+    tie.close
+    (tie.spec
+    (λ c. omega arith) returns
+    (λ c. omega arith) (λ c. omega arith) returns-2
+    (λ c. omega arith) (λ c. omega arith) (λ c. omega arith) returns-3
+    (λ c. omega arith) (λ c. omega arith) (λ c. omega arith) (λ c. omega arith) returns-4)

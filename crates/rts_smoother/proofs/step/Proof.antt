@@ -3,7 +3,8 @@ use mathlib.Core.Path.{subst}
 use Prim.Native.Nat.{ℕ, _+_, _≤_}
 use lib.ListN.{length}
 use borrow.Author.Needs.{needs}
-use Rattle.matrix.proofs.Results.{size-of}
+use Rattle.matrix.proofs.Results.{size-of, shaped-true}
+use Rattle.matrix.proofs.Kernels.{rows-sized}
 use Rattle.rts_smoother.specs.Buffer.{stride}
 use Rattle.rts_smoother.proofs.Steps.{step-sized, step-done, step-refused}
 use Rattle.rts_smoother.proofs.step.Statement.{statement}
@@ -35,8 +36,9 @@ returns-3 c =
     let inverse = told .before .before in
     let q = inverse .before .before in
     let s = q .before .before .before .before in
-    step-done (size-of _ (s .pre .0)) (s .args .slots .now) (s .args .k) (s .pre .1) _ (q .matrix-at .ensures) (inverse .inverse-of .ensures) _ _ (told .enum-told .given .1) (p .before .rows-of .ensures)
-    (p .matrix-at2 .ensures) (y .before .vector-at .ensures) (y .vector-at2 .ensures) (gain .slot-gain .ensures) (state .moved-state .ensures) (c .moved-covariance .ensures)
+    let N = size-of _ (s .pre .0) in
+    step-done N (s .args .slots .now) (s .args .k) (s .pre .1) _ (q .matrix-at .ensures) (inverse .inverse-of .ensures) _ _ (told .enum-told .given .1) (p .before .rows-of .ensures)
+    (p .matrix-at2 .ensures) (y .before .vector-at .ensures) (y .vector-at2 .ensures) (rows-sized _ (shaped-true N N) (gain .gain .ensures)) (state .moved-state .ensures) (c .moved-covariance .ensures)
 
 returns-4 : tie.Need-returns-4
 returns-4 c =

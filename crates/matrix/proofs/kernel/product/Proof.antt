@@ -1,52 +1,85 @@
--- `kernel::product` meets its contract: a loop over the rows, whose sizes the test has shown.
-use Prim.Native.Nat.{_-_}
-use mathlib.Core.Path.{sym, _∙_}
-use Rattle.scalar.specs.Number.{_⊗_}
+-- `kernel::product` meets its contract: row after row is written out, up to the number of rows.
+use Prim.Native.Nat.{ℕ}
+use mathlib.Core.Path.{_≡_, sym, _∙_}
+use mathlib.Core.List.{List, [], _∷_}
+use lib.ListN.{replicate}
+use lib.Ieee.{Float}
+use Rattle.scalar.specs.Number.{_⊗_, +0}
 use Rattle.matrix.specs.Table.{table}
 use Rattle.matrix.specs.Matrix.{cell, sum}
-use Rattle.matrix.proofs.Arrays.{Rows, rows-none, rows-more, rows-all, kept-sums, mul-used}
-use Rattle.matrix.proofs.Results.{Chain, chained-sizes}
+use Rattle.matrix.specs.Array.{padRow}
+use Rattle.matrix.proofs.Arrays.{kept-sums, rows-at, mul-used}
+use Rattle.matrix.proofs.Results.{chained-sizes, is-four}
 use Rattle.matrix.proofs.Kernels.{rows-answered, rows-refused}
-use native.Mathlib.Omega.{arith}
+use borrow.Author.Needs.{needs}
 use Rattle.matrix.proofs.kernel.product.Statement.{statement}
 use Rattle.matrix.proofs.kernel.product.Tie as tie
 
-abbrev Inv-loop : tie.InvT-loop
-Inv-loop a b r k c out₀ i₀ out i = Chain r k c × Rows (λ i. table c (λ j. sum k (λ t. cell a i t ⊗ cell b t j))) r i out
+returns : tie.Need-returns
+returns c =
+    let k1 = c .before in
+    let t = k1 .before .before .before in
+    let x = t .before .before .args in
+    let e = sym (t .before .is-chained .ensures) ∙ t .if1 .taken in
+    let s = chained-sizes _ _ _ _ e in
+    let f : ℕ → List Float = λ i. table (x .c) (λ j. sum (x .k) (λ t. cell (x .a .now) i t ⊗ cell (x .b .now) t j)) in
+    let e0 : k1 .kept .result ≡ padRow (f 0) = k1 .kept .ensures ∙ kept-sums _ _ _ _ (s .cols) (s .inner) (k1 .before .row-product .ensures) in
+    rows-answered _ e (rows-at 1 _ f (sym (c .if2 .taken)) (λ i. e0 i ∷ replicate 4 +0 ∷ replicate 4 +0 ∷ replicate 4 +0 ∷ []) (mul-used _ _ _ _ _))
 
-abbrev μ-loop : tie.MeasureT-loop
-μ-loop a b r k c out₀ i₀ out i = r - i
+returns-2 : tie.Need-returns-2
+returns-2 c =
+    let k2 = c .before in
+    let k1 = k2 .before .before .before .before in
+    let t = k1 .before .before .before in
+    let x = t .before .before .args in
+    let e = sym (t .before .is-chained .ensures) ∙ t .if1 .taken in
+    let s = chained-sizes _ _ _ _ e in
+    let f : ℕ → List Float = λ i. table (x .c) (λ j. sum (x .k) (λ t. cell (x .a .now) i t ⊗ cell (x .b .now) t j)) in
+    let e0 : k1 .kept .result ≡ padRow (f 0) = k1 .kept .ensures ∙ kept-sums _ _ _ _ (s .cols) (s .inner) (k1 .before .row-product .ensures) in
+    let e1 : k2 .kept2 .result ≡ padRow (f 1) = k2 .kept2 .ensures ∙ kept-sums _ _ _ _ (s .cols) (s .inner) (k2 .before .row-product2 .ensures) in
+    rows-answered _ e (rows-at 2 _ f (sym (c .if3 .taken)) (λ i. e0 i ∷ e1 i ∷ replicate 4 +0 ∷ replicate 4 +0 ∷ []) (mul-used _ _ _ _ _))
 
-loop-holds : tie.Need-loop-holds Inv-loop μ-loop
-loop-holds c = (chained-sizes _ _ _ _ (sym (c .before .is-chained .ensures) ∙ c .if1 .taken), rows-none _ _)
+returns-3 : tie.Need-returns-3
+returns-3 c =
+    let k3 = c .before in
+    let k2 = k3 .before .before .before .before in
+    let k1 = k2 .before .before .before .before in
+    let t = k1 .before .before .before in
+    let x = t .before .before .args in
+    let e = sym (t .before .is-chained .ensures) ∙ t .if1 .taken in
+    let s = chained-sizes _ _ _ _ e in
+    let f : ℕ → List Float = λ i. table (x .c) (λ j. sum (x .k) (λ t. cell (x .a .now) i t ⊗ cell (x .b .now) t j)) in
+    let e0 : k1 .kept .result ≡ padRow (f 0) = k1 .kept .ensures ∙ kept-sums _ _ _ _ (s .cols) (s .inner) (k1 .before .row-product .ensures) in
+    let e1 : k2 .kept2 .result ≡ padRow (f 1) = k2 .kept2 .ensures ∙ kept-sums _ _ _ _ (s .cols) (s .inner) (k2 .before .row-product2 .ensures) in
+    let e2 : k3 .kept3 .result ≡ padRow (f 2) = k3 .kept3 .ensures ∙ kept-sums _ _ _ _ (s .cols) (s .inner) (k3 .before .row-product3 .ensures) in
+    rows-answered _ e (rows-at 3 _ f (sym (c .if4 .taken)) (λ i. e0 i ∷ e1 i ∷ e2 i ∷ replicate 4 +0 ∷ []) (mul-used _ _ _ _ _))
 
-loop-again : tie.Need-loop-again Inv-loop μ-loop
-loop-again c =
-    let v = c .before .before .before .before .loop .inv in
-    (v .0, rows-more (v .1) (omega arith) (omega arith) (c .kept .ensures ∙ kept-sums _ _ _ _ (v .0 .cols) (v .0 .inner) (c .before .row-product .ensures)))
+returns-4 : tie.Need-returns-4
+returns-4 c =
+    let k3 = c .before .before .before .before in
+    let k2 = k3 .before .before .before .before in
+    let k1 = k2 .before .before .before .before in
+    let t = k1 .before .before .before in
+    let x = t .before .before .args in
+    let e = sym (t .before .is-chained .ensures) ∙ t .if1 .taken in
+    let s = chained-sizes _ _ _ _ e in
+    let f : ℕ → List Float = λ i. table (x .c) (λ j. sum (x .k) (λ t. cell (x .a .now) i t ⊗ cell (x .b .now) t j)) in
+    let e0 : k1 .kept .result ≡ padRow (f 0) = k1 .kept .ensures ∙ kept-sums _ _ _ _ (s .cols) (s .inner) (k1 .before .row-product .ensures) in
+    let e1 : k2 .kept2 .result ≡ padRow (f 1) = k2 .kept2 .ensures ∙ kept-sums _ _ _ _ (s .cols) (s .inner) (k2 .before .row-product2 .ensures) in
+    let e2 : k3 .kept3 .result ≡ padRow (f 2) = k3 .kept3 .ensures ∙ kept-sums _ _ _ _ (s .cols) (s .inner) (k3 .before .row-product3 .ensures) in
+    let e3 : c .kept4 .result ≡ padRow (f 3) = c .kept4 .ensures ∙ kept-sums _ _ _ _ (s .cols) (s .inner) (c .before .row-product4 .ensures) in
+    rows-answered _ e (rows-at 4 _ f (is-four (s .rows) (k2 .before .before .before .if2 .left) (k3 .before .before .before .if3 .left) (c .before .before .before .if4 .left)) (λ i. e0 i ∷ e1 i ∷ e2 i ∷ e3 i ∷ []) (mul-used _ _ _ _ _))
 
-returns : tie.Need-returns Inv-loop μ-loop
-returns c = rows-answered _ (sym (c .before .before .before .is-chained .ensures) ∙ c .before .before .if1 .taken) (rows-all (c .before .loop .inv .1) (omega arith) (mul-used _ _ _ _ _))
-
-returns-2 : tie.Need-returns-2 Inv-loop μ-loop
-returns-2 c = rows-refused _ (sym (c .before .is-chained .ensures) ∙ c .if1 .left)
+returns-5 : tie.Need-returns-5
+returns-5 c = rows-refused _ (sym (c .before .is-chained .ensures) ∙ c .if1 .left)
 
 pub product-spec : {M : Type 1} → statement M
 product-spec =
     tie.close
     (tie.spec
-    Inv-loop
-    μ-loop
-    (λ c κs. tt)
-    loop-holds
-    (λ c. omega arith)
-    (λ c. omega arith)
-    (λ c κs. tt)
-    (λ c κs. tt)
-    (λ c. omega arith)
-    (λ c. omega arith)
-    (λ c. omega arith)
-    (λ c. omega arith)
-    loop-again
-    returns
-    returns-2)
+    (λ c κs. search needs)
+    (λ c. search needs) (λ c κs. search needs) (λ c κs. search needs) returns
+    (λ c. search needs) (λ c κs. search needs) (λ c κs. search needs) returns-2
+    (λ c. search needs) (λ c κs. search needs) (λ c κs. search needs) returns-3
+    (λ c. search needs) (λ c κs. search needs) (λ c κs. search needs) returns-4
+    returns-5)
