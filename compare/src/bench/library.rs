@@ -3,7 +3,6 @@
 
 use oxictl::core::matrix::Matrix;
 use oxictl::estimator::kalman::KalmanFilter;
-use std::hint::black_box;
 
 type Rows = [[f64; 4]; 4];
 
@@ -31,6 +30,11 @@ pub fn rows<const R: usize, const C: usize>(matrix: &Matrix<f64, R, C>) -> Rows 
     std::array::from_fn(|k| matrix.data.get(k).map_or([0.0; 4], |row| cells(row)))
 }
 
+/// The n rows of n numbers that are used, one after another.
+pub fn used(n: usize, rows: &Rows) -> Vec<f64> {
+    rows[..n].iter().flat_map(|row| row[..n].to_vec()).collect()
+}
+
 pub fn matmul(n: usize, a: &Rows, b: &Rows, out: &mut Rows) {
     unsafe { bench_matmul(n, a, b, out) }
 }
@@ -56,11 +60,12 @@ impl Steps {
         Steps { sizes: [N, M, I], parts, state: cells(f.state()) }
     }
 
-    pub fn run(&self, u: &[f64], z: &[f64]) {
+    /// The state after so many steps.
+    pub fn run(&self, u: &[f64], z: &[f64]) -> [f64; 4] {
         let [n, m, i] = self.sizes;
         let [a, b, h, q, r, p] = &self.parts;
         let (u, z, mut out) = (cells(u), cells(z), [0.0; 4]);
         unsafe { bench_steps(n, m, i, a, b, h, q, r, &self.state, p, &u, &z, STEPS, &mut out) };
-        black_box(out);
+        out
     }
 }

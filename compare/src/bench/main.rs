@@ -1,6 +1,6 @@
-//! bench: how long the Rust and the port take for the same work, in one table. Each figure is the best
-//! of several runs. The Rust is called through functions that are not inlined, as the port's are not.
-//! The port is called twice: the library's functions by value, and the C interface over slices.
+//! bench: how long the Rust and the port take for the same work, in one table. Each figure is the best of several runs,
+//! and before the first the answers are compared bit for bit. The Rust is called as the port is: through functions that
+//! are not inlined, and a loop of steps as one call. The port is the library by value, and the C interface over slices.
 
 #[path = "../port_side/entries.rs"]
 mod entries;
@@ -17,6 +17,8 @@ const RUNS: usize = 25;
 
 /// How long one run lasts, about.
 const RUN: Duration = Duration::from_millis(10);
+
+type Work<'a> = &'a mut dyn FnMut();
 
 /// A result that counts as used, where it stands.
 fn keep<T>(result: &T) {
@@ -41,7 +43,7 @@ fn times(work: &mut dyn FnMut()) -> u64 {
 }
 
 /// The best time of each side in nanoseconds, all taking turns.
-fn best(sides: &mut [&mut dyn FnMut()]) -> Vec<f64> {
+fn best(sides: &mut [Work]) -> Vec<f64> {
     let counts: Vec<u64> = sides.iter_mut().map(|work| times(*work)).collect();
     let mut best = vec![f64::INFINITY; sides.len()];
     for _ in 0..RUNS {
@@ -57,18 +59,31 @@ fn heading() {
     println!("{:<30}{:>10}{:>10}{:>8}{:>10}{:>8}", "nanoseconds", "Rust", "library", "ratio", "C", "ratio");
 }
 
-/// One row: the Rust, the library by value where it is timed on its own, `per` pieces of work a call, and the C interface.
-fn row(name: &str, mut rust: impl FnMut(), library: Option<(&mut dyn FnMut(), f64)>, mut port: impl FnMut()) {
-    let (times, per) = match library {
-        Some((work, per)) => (best(&mut [&mut rust, &mut port, work]), per),
-        None => (best(&mut [&mut rust, &mut port]), 1.0),
-    };
-    let (rust, port) = (times[0], times[1]);
-    let (library, ratio) = match times.get(2) {
-        Some(time) => (format!("{:.1}", time / per), format!("{:.2}", time / per / rust)),
-        None => (String::new(), String::new()),
-    };
-    println!("{name:<30}{rust:>10.1}{library:>10}{ratio:>8}{port:>10.1}{:>8.2}", port / rust);
+/// A time and its ratio to the Rust's, or nothing where there is none.
+fn beside(time: Option<f64>, rust: f64) -> String {
+    match time {
+        Some(time) => format!("{time:>10.1}{:>8.2}", time / rust),
+        None => " ".repeat(18),
+    }
+}
+
+/// One row, `per` pieces of work a call: the Rust, and the library by value and the C interface where they do the same.
+fn row<'a>(name: &str, per: f64, rust: Work<'a>, library: Option<Work<'a>>, c: Option<Work<'a>>) {
+    let (with_library, with_c) = (library.is_some(), c.is_some());
+    let mut sides = vec![rust];
+    sides.extend(library);
+    sides.extend(c);
+    let mut times = best(&mut sides).into_iter().map(|time| time / per);
+    let rust = times.next().unwrap();
+    let library = beside(with_library.then(|| times.next().unwrap()), rust);
+    let c = beside(with_c.then(|| times.next().unwrap()), rust);
+    println!("{}", format!("{name:<30}{rust:>10.1}{library}{c}").trim_end());
+}
+
+/// What is timed gives the Rust's numbers.
+fn agree(name: &str, rust: &[f64], port: &[f64]) {
+    let bits = |cells: &[f64]| cells.iter().map(|x| x.to_bits()).collect::<Vec<_>>();
+    assert_eq!(bits(rust), bits(port), "{name}: the port's numbers are not the Rust's");
 }
 
 /// A symmetric, positive definite matrix.
@@ -83,65 +98,108 @@ fn flat<const R: usize, const C: usize>(matrix: &Matrix<f64, R, C>) -> Vec<f64> 
 
 fn matrices<const N: usize>() {
     let a = definite::<N>();
-    let cells = flat(&a);
-    let rows = library::rows(&a);
-    let mut out = vec![0.0; N * N];
-    let mut made = [[0.0; 4]; 4];
+    let (cells, rows) = (flat(&a), library::rows(&a));
+    let (mut made, mut out) = ([[0.0; 4]; 4], vec![0.0; N * N]);
+
+    let name = format!("matmul {N} x {N}");
+    library::matmul(N, &rows, &rows, &mut made);
+    port::matmul(N, &cells, &cells, &mut out);
+    let answer = flat(&rust::matmul(&a, &a));
+    agree(&name, &answer, &library::used(N, &made));
+    agree(&name, &answer, &out);
     row(
-        &format!("matmul {N} x {N}"),
-        || keep(&rust::matmul(black_box(&a), black_box(&a))),
-        Some((&mut || library::matmul(N, black_box(&rows), black_box(&rows), black_box(&mut made)), 1.0)),
-        || port::matmul(N, black_box(&cells), black_box(&cells), black_box(&mut out)),
+        &name,
+        1.0,
+        &mut || keep(&rust::matmul(black_box(&a), black_box(&a))),
+        Some(&mut || library::matmul(N, black_box(&rows), black_box(&rows), black_box(&mut made))),
+        Some(&mut || port::matmul(N, black_box(&cells), black_box(&cells), black_box(&mut out))),
     );
+
+    let name = format!("inv {N} x {N}");
+    library::inv(N, &rows, &mut made);
+    port::inv(N, &cells, &mut out);
+    let answer = flat(&rust::inv(&a).expect("an inverse"));
+    agree(&name, &answer, &library::used(N, &made));
+    agree(&name, &answer, &out);
     row(
-        &format!("inv {N} x {N}"),
-        || keep(&rust::inv(black_box(&a))),
-        Some((&mut || library::inv(N, black_box(&rows), black_box(&mut made)), 1.0)),
-        || port::inv(N, black_box(&cells), black_box(&mut out)),
+        &name,
+        1.0,
+        &mut || keep(&rust::inv(black_box(&a))),
+        Some(&mut || library::inv(N, black_box(&rows), black_box(&mut made))),
+        Some(&mut || port::inv(N, black_box(&cells), black_box(&mut out))),
     );
+
+    let name = format!("cholesky {N} x {N}");
+    library::cholesky(N, &rows, &mut made);
+    port::cholesky(N, &cells, &mut out);
+    let answer = flat(&rust::cholesky(&a).expect("a factor"));
+    agree(&name, &answer, &library::used(N, &made));
+    agree(&name, &answer, &out);
     row(
-        &format!("cholesky {N} x {N}"),
-        || keep(&rust::cholesky(black_box(&a))),
-        Some((&mut || library::cholesky(N, black_box(&rows), black_box(&mut made)), 1.0)),
-        || port::cholesky(N, black_box(&cells), black_box(&mut out)),
+        &name,
+        1.0,
+        &mut || keep(&rust::cholesky(black_box(&a))),
+        Some(&mut || library::cholesky(N, black_box(&rows), black_box(&mut made))),
+        Some(&mut || port::cholesky(N, black_box(&cells), black_box(&mut out))),
     );
 }
 
-/// A prediction and an update on a filter that goes on and on.
+/// A prediction and an update: by themselves, on a filter that goes on and on, and in a loop of many.
 fn filter<const N: usize, const M: usize, const I: usize>() {
+    let name = format!("predict + update ({N}, {M}, {I})");
     let mut rust = rust::filter::<N, M, I>(definite(), definite());
     let mut port = port::Filter::new(&rust);
-    let steps = library::Steps::new(&rust);
+    let (start, steps) = (rust.clone(), library::Steps::new(&rust));
     let (u, z) = ([0.5; I], [1.0; M]);
+    agree(&name, &rust::steps(&start, &u, &z, library::STEPS), &steps.run(&u, &z)[..N]);
+    rust::predict_update(&mut rust, &u, &z);
+    port.predict_update(&u, &z);
+    agree(&name, &[&rust.state()[..], &flat(rust.covariance())].concat(), port.estimate());
     row(
-        &format!("predict + update ({N}, {M}, {I})"),
-        || rust::predict_update(black_box(&mut rust), black_box(&u), black_box(&z)),
-        Some((&mut || steps.run(black_box(&u), black_box(&z)), library::STEPS as f64)),
-        || port.predict_update(black_box(&u), black_box(&z)),
+        &name,
+        1.0,
+        &mut || rust::predict_update(black_box(&mut rust), black_box(&u), black_box(&z)),
+        None,
+        Some(&mut || port.predict_update(black_box(&u), black_box(&z))),
+    );
+    row(
+        &format!("  a step of {} in a loop", library::STEPS),
+        library::STEPS as f64,
+        &mut || keep(&rust::steps(black_box(&start), black_box(&u), black_box(&z), library::STEPS)),
+        Some(&mut || keep(&steps.run(black_box(&u), black_box(&z)))),
+        None,
     );
 }
 
 /// Smoothing `count` slots in a room of 64.
 fn smooth<const N: usize>(name: &str, count: usize) {
+    let name = format!("{name} {count} slots, N = {N}");
     let f = rust::transition::<N>();
     let (rust, slots) = rust::smoother::<N>(count);
     let mut port = port::Smoother::new(N, &slots);
     let cells = flat(&f);
+    let answer = rust::smooth(&rust, &f).expect("smoothed slots");
+    let numbers: Vec<f64> = answer.states[..count].iter().flat_map(|s| [&s.x[..], &flat(&s.p)].concat()).collect();
+    port.smooth(count, &cells);
+    agree(&name, &numbers, port.pairs(count));
     row(
-        &format!("{name} {count} slots, N = {N}"),
-        || keep(&rust::smooth(black_box(&rust), black_box(&f))),
+        &name,
+        1.0,
+        &mut || keep(&rust::smooth(black_box(&rust), black_box(&f))),
         None,
-        || port.smooth(count, black_box(&cells)),
+        Some(&mut || port.smooth(count, black_box(&cells))),
     );
 }
 
 fn main() {
     heading();
+    agree("root", &[rust::root(2.3)], &[port::root(2.3)]);
     row(
         "root (the Rust: hardware's)",
-        || keep(&rust::root(black_box(2.3))),
+        1.0,
+        &mut || keep(&rust::root(black_box(2.3))),
         None,
-        || keep(&port::root(black_box(2.3))),
+        Some(&mut || keep(&port::root(black_box(2.3)))),
     );
     matrices::<1>();
     matrices::<2>();

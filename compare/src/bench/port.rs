@@ -1,5 +1,4 @@
-//! The port's side of the bench: the C functions of estimators.h. Another set of entries replaces this
-//! file alone.
+//! The C interface's side of the bench: the functions of estimators.h over slices.
 
 use crate::entries::*;
 use oxictl::estimator::kalman::KalmanFilter;
@@ -50,6 +49,12 @@ impl Filter {
         Filter { sizes: [N, M, I], cells, innovation: vec![0.0; M] }
     }
 
+    /// The state, then the covariance.
+    pub fn estimate(&self) -> &[f64] {
+        let n = self.sizes[0];
+        &self.cells[self.cells.len() - n - n * n..]
+    }
+
     pub fn predict_update(&mut self, u: &[f64], z: &[f64]) {
         let [n, m, i] = self.sizes;
         let (cells, len) = (self.cells.as_mut_ptr(), self.cells.len());
@@ -69,6 +74,11 @@ pub struct Smoother {
 impl Smoother {
     pub fn new(n: usize, slots: &[f64]) -> Self {
         Smoother { n, slots: slots.to_vec(), output: vec![0.0; slots.len() / 2] }
+    }
+
+    /// The first `count` smoothed pairs.
+    pub fn pairs(&self, count: usize) -> &[f64] {
+        &self.output[..count * (self.n + self.n * self.n)]
     }
 
     pub fn smooth(&mut self, count: usize, a: &[f64]) {

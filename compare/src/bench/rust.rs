@@ -70,6 +70,22 @@ pub fn predict_update<const N: usize, const M: usize, const I: usize>(
     black_box(update(filter, z));
 }
 
+/// The state after `times` predictions and updates of a filter like this one.
+#[inline(never)]
+pub fn steps<const N: usize, const M: usize, const I: usize>(
+    from: &KalmanFilter<f64, N, M, I>,
+    u: &[f64; I],
+    z: &[f64; M],
+    times: usize,
+) -> [f64; N] {
+    let mut filter = from.clone();
+    for _ in 0..times {
+        filter.predict(u);
+        filter.update(z);
+    }
+    *filter.state()
+}
+
 /// A smoother with `count` slots stored, and the slots as the port lays them out, room for 64.
 pub fn smoother<const N: usize>(count: usize) -> (RtsSmoother<f64, N, 64>, Vec<f64>) {
     let mut smoother = RtsSmoother::new();
