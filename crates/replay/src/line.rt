@@ -1,6 +1,6 @@
 // The words of a line. Each word after the names becomes one u64: the bits of a number, a decimal size or
 // whole number, or the letter of a step. Nothing here demands anything of a line.
-ghost use Prim.Native.Nat.{_≤_};
+ghost use Prim.Native.Nat.{_≤_, max};
 ghost use lib.ListN.{length};
 
 // A word's value, and whether it is a word of the protocol.
@@ -52,10 +52,9 @@ pub fn is(a: &[u8], b: &[u8]) -> bool {
     true
 }
 
-// Where the word that begins at `from` ends.
+// Where the word that begins at `from` ends; `from` itself past the line's end.
 pub fn word_end(line: &[u8], from: usize) -> usize
-    requires { ⌜ from ≤ length (now line) ⌝ }
-    ensures { λ r. ⌜ (from ≤ r) × (r ≤ length (now (line .entry))) ⌝ }
+    ensures { λ r. ⌜ (from ≤ r) × (r ≤ max from (length (now (line .entry)))) ⌝ }
 {
     let mut at = from;
     while at < line.len() {
@@ -122,13 +121,20 @@ fn digit(b: u8) -> u64 {
     16
 }
 
-// One more digit at the right end, in base 16 or 10.
+// One more digit at the right end, in base 16 or 10, modulo 2^64.
 fn longer(bits: u64, d: u64, is_hex: bool) -> u64 {
     if is_hex {
         bits % 1152921504606846976 * 16 + d % 16
     } else {
-        bits % 1000000000000000000 * 10 + d % 10
+        std::num::wrapping_add_u64(ten_times(bits), d)
     }
+}
+
+fn ten_times(x: u64) -> u64 {
+    let two = std::num::wrapping_add_u64(x, x);
+    let four = std::num::wrapping_add_u64(two, two);
+    let five = std::num::wrapping_add_u64(four, x);
+    std::num::wrapping_add_u64(five, five)
 }
 
 // Whether d is a digit of that base.
@@ -243,7 +249,12 @@ pub fn word(w: &[u64], k: usize) -> u64 {
     if k < w.len() { w[k] } else { 0 }
 }
 
-// A size, count or index; all that is too large is 999.
+// A slot's index, as large as it is.
+pub fn index(w: &[u64], k: usize) -> usize {
+    word(w, k) as usize
+}
+
+// A size or count; all that is too large is 999.
 pub fn size(w: &[u64], k: usize) -> usize {
     let x = word(w, k);
     if x < 999 { x as usize } else { 999 }

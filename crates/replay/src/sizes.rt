@@ -2,6 +2,7 @@
 // `refused NUMBER`, and ` | unchanged` or ` | changed` where a record or a buffer came with the call. Rests on the
 // library's public functions.
 use crate::answer;
+use crate::line::index;
 use crate::line::size;
 use crate::smoother::is_marked;
 use crate::tally::index_of;
@@ -195,13 +196,23 @@ fn filter_of(n: usize, m: usize, i: usize) -> KalmanFilter {
     f
 }
 
-fn is_same_cells(a: [f64; 16], b: [f64; 16]) -> bool {
-    for i in 0..16 {
+// Whether two lists hold the same numbers.
+fn is_same_numbers(a: &[f64], b: &[f64]) -> bool {
+    if a.len() != b.len() {
+        return false;
+    }
+    let mut i = 0;
+    while i < a.len() {
         if a[i] != b[i] {
             return false;
         }
+        i += 1;
     }
     true
+}
+
+fn is_same_cells(a: [f64; 16], b: [f64; 16]) -> bool {
+    is_same_numbers(&a, &b)
 }
 
 fn is_same_sizes(f: KalmanFilter, g: KalmanFilter) -> bool {
@@ -240,14 +251,12 @@ fn is_same_noise(f: KalmanFilter, g: KalmanFilter) -> bool {
 }
 
 fn is_same_estimate(f: KalmanFilter, g: KalmanFilter) -> bool {
-    let x = f.x;
-    let y = g.x;
-    let p = f.p;
-    let q = g.p;
-    if x[0] == y[0] {
-        if x[1] == y[1] {
-            return is_same_cells(p, q);
-        }
+    let fx = f.x;
+    let gx = g.x;
+    let fp = f.p;
+    let gp = g.p;
+    if is_same_numbers(&fx, &gx) {
+        return is_same_cells(fp, gp);
     }
     false
 }
@@ -356,7 +365,7 @@ fn store(w: &[u64], slots: &mut [f64]) -> Outcome {
 // A slot asked for, and how long the part is that is handed out.
 fn get(w: &[u64], slots: &[f64], out: &mut [u8]) -> usize {
     let s = smoother_of(size(w, 0), size(w, 1), size(w, 2));
-    let k = size(w, 3);
+    let k = index(w, 3);
     let part = s.get_state(slots, k);
     let length = part.len();
     let at = put_number(out, s.get_state_refusal(slots, k));

@@ -3,6 +3,7 @@
 // those of the operation. Buffers hold 1.5 wherever the library has not written.
 use crate::answer;
 use crate::line::after;
+use crate::line::index;
 use crate::line::matrix_at;
 use crate::line::size;
 use crate::line::vector_at;
@@ -143,7 +144,7 @@ fn store(s: RtsSmoother, w: &[u64], slots: &mut [f64], out: &mut [u8]) -> usize 
 }
 
 fn get(s: RtsSmoother, w: &[u64], slots: &mut [f64], out: &mut [u8]) -> usize {
-    let k = size(w, 3);
+    let k = index(w, 3);
     let r = store_all(s, w, 4, size(w, 2), slots, out, false);
     if r.next != w.len() {
         return 0;
