@@ -1,6 +1,6 @@
-//! differ FOLDER: reads chunk names on standard input and compares FOLDER/calls.NAME, rust.NAME and
-//! port.NAME line by line, deleting them after. At the end it prints each call's counts and, as the
-//! last line, `N calls, K differ`; it exits with 1 unless K is 0.
+//! differ FOLDER [--whole]: compares FOLDER/calls.NAME, rust.NAME and port.NAME line by line for each NAME on
+//! standard input, deleting them after, and prints counts. The last line is `N calls, K differ`; the exit is 1 unless
+//! K is 0. With --whole a call or a refusal that did not occur is a gap: the last line counts it, and the exit is 1.
 
 use compare::ops::{refusals, OPS};
 use std::fs::File;
@@ -128,19 +128,27 @@ impl Tally {
 }
 
 fn main() -> io::Result<()> {
-    let folder = std::env::args().nth(1).expect("usage: differ FOLDER");
+    let arguments: Vec<String> = std::env::args().skip(1).collect();
+    let (folder, whole) = match arguments.as_slice() {
+        [folder] => (folder, false),
+        [folder, flag] if flag == "--whole" => (folder, true),
+        _ => {
+            eprintln!("usage: differ FOLDER [--whole]");
+            std::process::exit(2)
+        }
+    };
     let mut tally = Tally { counts: vec![Count::default(); OPS.len() + 1], shown: 0 };
     for name in io::stdin().lock().lines() {
-        tally.chunk(Path::new(&folder), &name?)?;
+        tally.chunk(Path::new(folder), &name?)?;
     }
     tally.print();
-    for gap in tally.gaps() {
-        println!("{gap}");
-    }
+    let gaps = if whole { tally.gaps() } else { Vec::new() };
+    gaps.iter().for_each(|gap| println!("{gap}"));
     let calls: u64 = tally.counts.iter().map(|count| count.calls).sum();
     let differ: u64 = tally.counts.iter().map(|count| count.differ).sum();
-    println!("{calls} calls, {differ} differ");
-    if differ > 0 || calls == 0 {
+    let missing = if gaps.is_empty() { String::new() } else { format!(", {} gaps", gaps.len()) };
+    println!("{calls} calls, {differ} differ{missing}");
+    if differ > 0 || calls == 0 || !gaps.is_empty() {
         std::process::exit(1);
     }
     Ok(())

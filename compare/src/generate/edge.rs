@@ -2,7 +2,7 @@
 //! refusal at each place, smoothers of several sizes and rooms. The list is the same on every run.
 
 use crate::draw::{Draw, Style, LIMIT, SPECIAL};
-use crate::kalman::{good, refusing, sequence, Model};
+use crate::kalman::{good, refusing, sequence, styled as styled_filter, Model};
 use crate::matrix::styled;
 use crate::rts_smoother::{good_slots, predict, with_slots};
 use crate::shapes;
@@ -193,7 +193,17 @@ fn factors(draw: &mut Draw) -> Vec<Call> {
     calls
 }
 
-/// The filter at one size: a prediction and an update, and another call that depends on the input's size.
+/// A prediction and an update whose numbers are all of one style.
+fn steps(draw: &mut Draw, style: Style, [n, m, i]: [usize; 3]) -> [Call; 2] {
+    let (first, second) = (styled_filter(draw, style, n, m, i), styled_filter(draw, style, n, m, i));
+    [
+        first.call("kf_predict").with(&draw.numbers(style, i)),
+        second.call("kf_update").with(&draw.numbers(style, m)),
+    ]
+}
+
+/// The filter at one size: predictions and updates with ordinary numbers, whole and mixed ones, and another
+/// call that depends on the input's size.
 fn filters_at(draw: &mut Draw, n: usize, m: usize, i: usize) -> Vec<Call> {
     let model = good(draw, n, m, i);
     let other = match i {
@@ -209,11 +219,34 @@ fn filters_at(draw: &mut Draw, n: usize, m: usize, i: usize) -> Vec<Call> {
         }
     };
     let (first, second) = (good(draw, n, m, i), good(draw, n, m, i));
-    vec![
+    let mut calls = vec![
         other,
         first.call("kf_predict").with(&draw.numbers(Style::Ordinary, i)),
         second.call("kf_update").with(&draw.numbers(Style::Ordinary, m)),
-    ]
+    ];
+    calls.extend(steps(draw, Style::Whole, [n, m, i]));
+    calls.extend(steps(draw, Style::Mixed, [n, m, i]));
+    calls
+}
+
+/// The sizes that a road needs, in every style of numbers: special ones between ordinary ones, −0 and
+/// subnormal ones, overflow.
+fn road_filters(draw: &mut Draw) -> Vec<Call> {
+    let styles = [
+        Style::Whole,
+        Style::NearOne,
+        Style::Sprinkled,
+        Style::Sprinkled,
+        Style::Sprinkled,
+        Style::Special,
+        Style::Mixed,
+        Style::Power,
+        Style::Scaled(-1060),
+        Style::Scaled(-530),
+        Style::Scaled(510),
+    ];
+    let sizes = [[2, 1, 1], [4, 2, 2]];
+    sizes.iter().flat_map(|size| styles.map(|style| steps(draw, style, *size))).flatten().collect()
 }
 
 /// Refused, predicted and accepted, set back and refused again.
@@ -242,6 +275,7 @@ fn filters(draw: &mut Draw) -> Vec<Call> {
             calls.push(flat.call("kf_update").with(&vec![1.0; m]));
         }
     }
+    calls.extend(road_filters(draw));
     let trackers =
         [[0.0, 1.0, 1.0], [1.0, 0.0, 0.0], [NAN, 1.0, 1.0], [-0.0, -1.0, -0.0], [0.1, 1e300, 1e200]];
     calls.extend(trackers.map(|given| Call::new("kf_posvel").with(&given)));
@@ -269,9 +303,10 @@ fn smoothers(draw: &mut Draw, n: usize, room: usize) -> Vec<Call> {
         predict(&mut slots[place], &shapes::singular(draw, n));
         calls.push(smooth(&slots));
     }
-    for (s, k) in [(0, 0), (1, 0), (1, 1), (room, room - 1), (room, room), (room + 1, room), (1, usize::MAX)]
-    {
-        let slots = good_slots(draw, n, if room > 8 { s.min(1) } else { s });
+    let far = [(1, 1 << 32), (1, 1 << 63), (1, usize::MAX)];
+    let near = [(0, 0), (1, 0), (1, 1), (room, room - 1), (room, room), (room + 1, room)];
+    for (s, k) in near.into_iter().chain(far) {
+        let slots = good_slots(draw, n, s);
         calls.push(with_slots(Call::new("rts_get").wholes(&[n, room, slots.len(), k]), &slots));
     }
     for (before, s) in [(room, 0), (room, 1), (1, room.min(8)), (room + 1, room / 2)] {

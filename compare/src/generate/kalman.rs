@@ -66,6 +66,23 @@ pub fn good(draw: &mut Draw, n: usize, m: usize, i: usize) -> Model {
     }
 }
 
+/// A filter of numbers of one style.
+pub fn styled(draw: &mut Draw, style: Style, n: usize, m: usize, i: usize) -> Model {
+    let mut part = |count: usize| draw.numbers(style, count);
+    Model {
+        n,
+        m,
+        i,
+        a: part(n * n),
+        b: part(n * i),
+        h: part(m * n),
+        q: part(n * n),
+        r: part(m * m),
+        x: part(n),
+        p: part(n * n),
+    }
+}
+
 /// A filter whose updates are refused, or nearly.
 pub fn refusing(draw: &mut Draw, n: usize, m: usize, i: usize) -> Model {
     let mut model = good(draw, n, m, i);
@@ -113,9 +130,7 @@ fn hard(draw: &mut Draw, n: usize, m: usize, i: usize) -> Model {
         }
         _ => {
             let style = draw.style();
-            for part in model.parts() {
-                *part = draw.numbers(style, part.len());
-            }
+            model = styled(draw, style, n, m, i);
         }
     }
     model
