@@ -37,13 +37,16 @@ int main(void) {
     if (told == 0)
         told = rts_smoother_smooth(N, ROOM, stored, slots, ROOM * ESTIMATORS_SLOT(N), filter, N * N, smoothed,
                                    ROOM * PAIR);
-    for (size_t k = 0; told == 0 && k < stored; k++)
+    if (told != 0) {
+        printf("refused %u\n", told);
+        return told;
+    }
+    for (size_t k = 0; k < stored; k++)
         printf("%zu: smoothed position %.3f speed %.3f\n", k, smoothed[k * PAIR], smoothed[k * PAIR + 1]);
-    if (told != 0) printf("refused %u\n", told);
 
     /* What is not stored is refused, and nothing is written. */
     double slot[ESTIMATORS_SLOT(N)];
     printf("slot %zu: refused %u\n", stored,
            rts_smoother_get_state(N, ROOM, stored, slots, ROOM * ESTIMATORS_SLOT(N), stored, slot, ESTIMATORS_SLOT(N)));
-    return told;
+    return 0;
 }

@@ -102,8 +102,12 @@ fn duty() -> Result<(), u8> {
     Ok(())
 }
 
-fn main() {
-    if let Err(number) = duty() {
-        println!("refused {number}");
+fn main() -> std::process::ExitCode {
+    match duty() {
+        Ok(()) => std::process::ExitCode::SUCCESS,
+        Err(number) => {
+            println!("refused {number}");
+            number.into()
+        }
     }
 }
