@@ -3,8 +3,11 @@
  * Link libestimators.a, which `rt staticlib estimators` writes; it needs no other library.
  *
  * Numbers are IEEE 754 doubles and may hold any bits. A matrix is its cells by rows, used sizes only: R x C is
- * R * C doubles. A slice is a pointer and then how many doubles it holds; two slices of one call never overlap,
- * unless both are const. Sizes are 1 to 4, a smoother's room is 1 to 64 slots.
+ * R * C doubles. Sizes are 1 to 4, a smoother's room is 1 to 64 slots.
+ *
+ * A slice is a pointer and then how many doubles it holds. What no function can test is the caller's part: no pointer
+ * is NULL, not even one with a length of 0; behind it stand as many doubles as the length says, aligned, to be read
+ * and, unless it is const, written; and what a call may write through one pointer, it reaches through no other.
  *
  * A function that can refuse returns 0, or the first of these numbers that applies; then nothing is written:
  *   1  a size outside its limits, sizes that disagree, or a slice of another length than is stated
@@ -79,7 +82,8 @@ uint8_t matrix_set(size_t r, size_t c, size_t i, size_t j, const double *a, size
 uint8_t matrix_frob_norm(size_t r, size_t c, const double *a, size_t a_len, double *out);
 /* The sum of the diagonal of a (n x n). */
 uint8_t matrix_trace(size_t n, const double *a, size_t a_len, double *out);
-/* Whether a and b (both r x c) are equal cell by cell: -0 equals +0, a NaN equals nothing. */
+/* Whether a and b (both r x c) are equal cell by cell: -0 equals +0, a NaN equals nothing. The bool holds false
+ * or true before the call too: set it first. */
 uint8_t matrix_eq(size_t r, size_t c, const double *a, size_t a_len, const double *b, size_t b_len, bool *out);
 /* a (r x k) times b (k x c): out is r x c. */
 uint8_t matrix_matmul(size_t r, size_t k, size_t c, const double *a, size_t a_len, const double *b, size_t b_len,
@@ -124,7 +128,9 @@ uint8_t kalman_new(size_t n, size_t m, size_t i, const double *a, size_t a_len, 
                    const double *h, size_t h_len, const double *q, size_t q_len, const double *r, size_t r_len,
                    const double *x0, size_t x0_len, const double *p0, size_t p0_len,
                    double *filter, size_t filter_len);
-/* Position and speed with the step dt in seconds, the position measured: n = 2, m = 1, i = 1, so 19 numbers. */
+/* Position and speed with the step dt in seconds, the position measured: n = 2, m = 1, i = 1, so 19 numbers. q is
+ * process_noise times (dt^4 / 4, dt^3 / 2; dt^3 / 2, dt^2); measurement_noise is a standard deviation, r its square.
+ * The state starts at 0, the covariance with 1000 on the diagonal and 0 beside it. */
 uint8_t kalman_position_velocity(double dt, double process_noise, double measurement_noise,
                                  double *filter, size_t filter_len);
 /* One step on, with the input u (i): the state becomes A x + B u, the covariance A P At + Q. */

@@ -1,5 +1,4 @@
-//! The calls that both drivers answer, by the module they belong to. A module that joins adds its
-//! family and its calls here, and one file in each of rust_side, port_side and generate.
+//! The calls that both drivers answer, by the module they belong to. README.md says how a module joins.
 
 /// The module of a call.
 #[derive(Clone, Copy, PartialEq, Eq)]

@@ -58,19 +58,24 @@ fn two_slices(op: &[u8], w: &mut Words, answer: &mut Answer) -> Result<(), Bad> 
     out.answer(status, answer)
 }
 
+/// Asked twice, with the bool lent false and lent true, so that one which was not written shows.
 fn equal(w: &mut Words, answer: &mut Answer) -> Result<(), Bad> {
-    const MARKER: u8 = 0xA5;
     let (r, c) = (w.size()?, w.size()?);
     let (a, b) = (w.cells(r * c)?, w.cells(r * c)?);
     w.end()?;
-    let mut out = MARKER;
-    match unsafe { matrix_eq(r, c, a.as_ptr(), a.len(), b.as_ptr(), b.len(), &mut out) } {
-        0 => {
+    let ask = |lent: u8| {
+        let mut out = lent;
+        let status = unsafe { matrix_eq(r, c, a.as_ptr(), a.len(), b.as_ptr(), b.len(), &mut out) };
+        (status, out)
+    };
+    match (ask(0), ask(1)) {
+        ((0, x), (0, y)) if x == y => {
             answer.ok();
-            answer.whole(out as usize);
+            answer.whole(x as usize);
         }
-        _ if out != MARKER => return Err("output touched"),
-        refusal => answer.refused(refusal),
+        ((0, _), (0, _)) => return Err("output not written"),
+        ((x, 0), (y, 1)) if x == y => answer.refused(x),
+        _ => return Err("output touched, or two answers to one call"),
     }
     Ok(())
 }
