@@ -11,6 +11,7 @@ use Rattle.matrix.specs.Table.{table, padTo}
 use Rattle.matrix.specs.Matrix.{Vector, Matrix, at, row, cell, mat, sum, mul, matvec, transpose}
 use Rattle.matrix.specs.Array.{cut, used, padRow, pad}
 use Rattle.matrix.specs.Result.{sizeOrFour}
+use Rattle.matrix.specs.Kernel.{rowTimes}
 use Rattle.matrix.proofs.Tables.{length-table, getD-table, table-ext, table-getD, getD-padTo, map-table, Filling, filling-none, filling-more, filling-all}
 use Rattle.matrix.proofs.Matrices.{sum-ext, sums, Shape, shape-mat, cell-mat, mul-ext, matvec-ext, transpose-ext, both-ext}
 use Rattle.matrix.proofs.Results.{Size, or-four-size, or-four-most}
@@ -101,7 +102,8 @@ kept-sums c k f v s e p = kept-row c (λ j. sum k (f j)) v s (p ∙ ap (λ (n : 
 
 -- ---- a combination of four rows is that of the rows R, if those are the four
 pub combination-is : (v : List Float) (R : ℕ → List Float) (k : ℕ) {r0 r1 r2 r3 s : List Float} → r0 ≡ R 0 → r1 ≡ R 1 → r2 ≡ R 2 → r3 ≡ R 3
-    → s ≡ table 4 (λ j. sum (sizeOrFour k) (λ t. at v t ⊗ cell (r0 ∷ r1 ∷ r2 ∷ r3 ∷ []) t j)) → s ≡ sums v R (sizeOrFour k)
+    → s ≡ rowTimes (sizeOrFour k) v (r0 ∷ r1 ∷ r2 ∷ r3 ∷ []) → s ≡ sums v R (sizeOrFour k)
+unfolding rowTimes
 combination-is v R k e0 e1 e2 e3 p =
     let n = sizeOrFour k in
     p

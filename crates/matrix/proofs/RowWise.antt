@@ -6,9 +6,10 @@ use native.Mathlib.Nat.{le-trans}
 use lib.Ieee.{Float, nan}
 use Rattle.scalar.specs.Number.{_⊕_, _⊖_, _⊗_}
 use Rattle.matrix.specs.Table.{table}
-use Rattle.matrix.specs.Matrix.{Vector, Matrix, at, row, cell, mat, sum, identity, transpose, add, sub, mul}
+use Rattle.matrix.specs.Matrix.{Vector, Matrix, at, row, cell, mat, sum, identity, transpose, add, sub, mul, vecAdd, vecSub}
 use Rattle.matrix.specs.Array.{cut, used, padRow}
 use Rattle.matrix.specs.Result.{sizeOrFour}
+use Rattle.matrix.specs.Kernel.{rowTimes, rowTimesTransposed}
 use Rattle.matrix.proofs.Tables.{getD-table, table-ext, table-getD}
 use Rattle.matrix.proofs.Matrices.{sum-ext, cell-mat, Shape}
 use Rattle.matrix.proofs.Arrays.{at-cut, cell-used, row-used, kept-sized}
@@ -53,14 +54,14 @@ row-of-identity {n} {i} {e} h N d = record {
 
 -- ---- sums and differences
 module _ {r c : ℕ} {A B : Matrix} {i : ℕ} {v w s : List Float} (a : RowOf r c A i v) (b : RowOf r c B i w) where
-  pub row-of-sum : s ≡ table 4 (λ j. at v j ⊕ at w j) → RowOf r c (add r c A B) i s
-  unfolding add
+  pub row-of-sum : s ≡ vecAdd 4 v w → RowOf r c (add r c A B) i s
+  unfolding add vecAdd
   row-of-sum e =
       row-made r c (λ j. at v j ⊕ at w j) (λ k j. cell A k j ⊕ cell B k j) i (a .within) (a .size)
       (λ j k. ap₂ (λ (x y : Float). x ⊕ y) (at-row a j k) (at-row b j k)) e
 
-  pub row-of-difference : s ≡ table 4 (λ j. at v j ⊖ at w j) → RowOf r c (sub r c A B) i s
-  unfolding sub
+  pub row-of-difference : s ≡ vecSub 4 v w → RowOf r c (sub r c A B) i s
+  unfolding sub vecSub
   row-of-difference e =
       row-made r c (λ j. at v j ⊖ at w j) (λ k j. cell A k j ⊖ cell B k j) i (a .within) (a .size)
       (λ j k. ap₂ (λ (x y : Float). x ⊖ y) (at-row a j k) (at-row b j k)) e
@@ -76,12 +77,13 @@ module _ {r k c : ℕ} {A : Matrix} {i : ℕ} {v s : List Float} (a : RowOf r k 
       (λ j m. sum-ext k (λ t. at v t ⊗ g t j) (λ t. cell A i t ⊗ cell B t j) (λ t n. ap₂ (λ (x y : Float). x ⊗ y) (at-row a t n) (b t j n m)))
       (e ∙ ap (λ (n : ℕ). table 4 (λ j. sum n (λ t. at v t ⊗ g t j))) (or-four-size (a .size)))
 
-  pub row-of-product : (b : List (List Float)) → s ≡ table 4 (λ j. sum (sizeOrFour k) (λ t. at v t ⊗ cell b t j)) → RowOf r c (mul r k c A (used k c b)) i s
+  pub row-of-product : (b : List (List Float)) → s ≡ rowTimes (sizeOrFour k) v b → RowOf r c (mul r k c A (used k c b)) i s
+  unfolding rowTimes
   row-of-product b e = row-times (used k c b) (λ t j. cell b t j) (λ t j m n. sym (cell-used k c b t j m n)) e
 
-  pub row-of-product-transposed : (b : List (List Float)) → s ≡ table 4 (λ j. sum (sizeOrFour k) (λ t. at v t ⊗ cell b j t))
+  pub row-of-product-transposed : (b : List (List Float)) → s ≡ rowTimesTransposed (sizeOrFour k) v b
       → RowOf r c (mul r k c A (transpose c k (used c k b))) i s
-  unfolding transpose
+  unfolding transpose rowTimesTransposed
   row-of-product-transposed b e =
       row-times (transpose c k (used c k b)) (λ t j. cell b j t)
       (λ t j m n. sym (cell-mat k c (λ p q. cell (used c k b) q p) t j m n ∙ cell-used c k b j t n m)) e

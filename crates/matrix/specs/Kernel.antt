@@ -6,7 +6,7 @@ use lib.Dec.{eqb}
 use lib.Ieee.{Float}
 use Rattle.scalar.specs.Number.{_⊕_, _⊗_}
 use Rattle.matrix.specs.Table.{table}
-use Rattle.matrix.specs.Matrix.{Vector, Matrix, at, cell}
+use Rattle.matrix.specs.Matrix.{Vector, Matrix, at, cell, sum}
 use Rattle.matrix.specs.Array.{pad, padRow, usedFlat}
 use Rattle.matrix.specs.Answer.{Answer, refused, answered}
 use Rattle.matrix.specs.Result.{sized, shaped}
@@ -23,6 +23,14 @@ cellsOf (answered v) = padRow v
 -- s + x v, of rows of four numbers
 unfoldable pub plusScaled : List Float → Float → List Float → List Float
 plusScaled s x v = table 4 (λ j. at s j ⊕ (x ⊗ at v j))
+
+-- v × the first k rows of b, in all four columns
+unfoldable pub rowTimes : ℕ → List Float → List (List Float) → List Float
+rowTimes k v b = table 4 (λ j. sum k (λ t. at v t ⊗ cell b t j))
+
+-- v × the first k rows of transposed b
+unfoldable pub rowTimesTransposed : ℕ → List Float → List (List Float) → List Float
+rowTimesTransposed k v b = table 4 (λ j. sum k (λ t. at v t ⊗ cell b j t))
 
 -- ---- four rows of four that stand flat in a record
 

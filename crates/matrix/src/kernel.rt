@@ -1,5 +1,6 @@
-// The operations behind references, for the crates above: no matrix is copied. Each that takes sizes tests
-// them, and gives all +0 where they are wrong.
+// The operations behind references, for the crates above: no matrix is copied. Each that takes the sizes of matrices
+// tests them, and gives all +0 where they are wrong; the two products of a row take a number of terms, and one that is
+// no size counts as 4.
 use crate::is_chained;
 use crate::is_shape;
 use crate::is_size;
@@ -9,29 +10,28 @@ ghost use mathlib.Core.List.{[], _∷_};
 ghost use Prim.Native.Nat.{_+_, _≤_, _<_};
 ghost use Rattle.matrix.specs.Answer.{where-sized};
 ghost use Rattle.matrix.specs.Table.{table};
-ghost use Rattle.matrix.specs.Matrix.{at, cell, sum as sumOf, identity, transpose, add, sub, mul, matvec, vecAdd, vecSub};
+ghost use Rattle.matrix.specs.Matrix.{at, cell, identity, transpose, add, sub, mul, matvec, vecAdd, vecSub, vecScale};
 ghost use Rattle.matrix.specs.Array.{cut, used};
 ghost use Rattle.matrix.specs.Result.{sized, sizeOrFour, shaped, chained};
-ghost use Rattle.matrix.specs.Kernel.{rowsOf, cellsOf, plusScaled, rowsOfFlat, flatOfRows};
-ghost use Rattle.scalar.specs.Number.{_⊕_, _⊖_, _⊗_};
+ghost use Rattle.matrix.specs.Kernel.{rowsOf, cellsOf, plusScaled, rowTimes, rowTimesTransposed, rowsOfFlat, flatOfRows};
 
 // ---- rows: all four numbers
 
 pub fn row_sum(v: [f64; 4], w: [f64; 4]) -> [f64; 4]
-    ensures { λ r. ⌜ r ≡ table 4 (λ j. at v j ⊕ at w j) ⌝ }
+    ensures { λ r. ⌜ r ≡ vecAdd 4 v w ⌝ }
 {
     [v[0] + w[0], v[1] + w[1], v[2] + w[2], v[3] + w[3]]
 }
 
 pub fn row_difference(v: [f64; 4], w: [f64; 4]) -> [f64; 4]
-    ensures { λ r. ⌜ r ≡ table 4 (λ j. at v j ⊖ at w j) ⌝ }
+    ensures { λ r. ⌜ r ≡ vecSub 4 v w ⌝ }
 {
     [v[0] - w[0], v[1] - w[1], v[2] - w[2], v[3] - w[3]]
 }
 
 // Each number times s.
 pub fn row_scaled(v: [f64; 4], s: f64) -> [f64; 4]
-    ensures { λ r. ⌜ r ≡ table 4 (λ j. at v j ⊗ s) ⌝ }
+    ensures { λ r. ⌜ r ≡ vecScale 4 v s ⌝ }
 {
     [v[0] * s, v[1] * s, v[2] * s, v[3] * s]
 }
@@ -66,7 +66,7 @@ fn combination(
     r3: [f64; 4],
     k: usize,
 ) -> [f64; 4]
-    ensures { λ r. ⌜ r ≡ table 4 (λ j. sumOf (sizeOrFour k) (λ t. at v t ⊗ cell (r0 ∷ r1 ∷ r2 ∷ r3 ∷ []) t j)) ⌝ }
+    ensures { λ r. ⌜ r ≡ rowTimes (sizeOrFour k) v (r0 ∷ r1 ∷ r2 ∷ r3 ∷ []) ⌝ }
 {
     let s1 = row_plus_scaled([0.0; 4], v[0], r0);
     if k == 1 {
@@ -83,16 +83,16 @@ fn combination(
     row_plus_scaled(s3, v[3], r3)
 }
 
-// v, of k components, times b, in all four columns.
+// v, of k components, times b, in all four columns. A k that is no size counts as 4.
 pub fn row_product(v: [f64; 4], b: &[[f64; 4]; 4], k: usize) -> [f64; 4]
-    ensures { λ r. ⌜ r ≡ table 4 (λ j. sumOf (sizeOrFour k) (λ t. at v t ⊗ cell (now (b .entry)) t j)) ⌝ }
+    ensures { λ r. ⌜ r ≡ rowTimes (sizeOrFour k) v (now (b .entry)) ⌝ }
 {
     combination(v, b[0], b[1], b[2], b[3], k)
 }
 
-// v times transposed b.
+// v times transposed b, likewise. A k that is no size counts as 4.
 pub fn row_product_transposed(v: [f64; 4], b: &[[f64; 4]; 4], k: usize) -> [f64; 4]
-    ensures { λ r. ⌜ r ≡ table 4 (λ j. sumOf (sizeOrFour k) (λ t. at v t ⊗ cell (now (b .entry)) j t)) ⌝ }
+    ensures { λ r. ⌜ r ≡ rowTimesTransposed (sizeOrFour k) v (now (b .entry)) ⌝ }
 {
     combination(v, column(b, 0), column(b, 1), column(b, 2), column(b, 3), k)
 }

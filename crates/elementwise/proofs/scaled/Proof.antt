@@ -3,7 +3,7 @@ use Prim.Native.Nat.{_-_}
 use mathlib.Core.Path.{_∙_}
 use Rattle.scalar.specs.Number.{_⊗_}
 use Rattle.matrix.specs.Table.{table}
-use Rattle.matrix.specs.Matrix.{cell}
+use Rattle.matrix.specs.Matrix.{cell, vecScale}
 use Rattle.matrix.proofs.Arrays.{Rows, rows-none, rows-more, rows-all, kept-row}
 use Rattle.matrix.proofs.Results.{size}
 use native.Mathlib.Omega.{arith}
@@ -21,6 +21,7 @@ loop-holds : tie.Need-loop-holds Inv-loop μ-loop
 loop-holds c = rows-none _ _
 
 loop-again : tie.Need-loop-again Inv-loop μ-loop
+unfolding vecScale
 loop-again c = rows-more (c .before .before .before .before .loop .inv) (omega arith) (omega arith) (c .kept .ensures ∙ kept-row _ _ _ (size (omega arith) (omega arith)) (c .before .row-scaled .ensures))
 
 returns : tie.Need-returns Inv-loop μ-loop

@@ -5,6 +5,7 @@ use mathlib.Core.List.{List, [], _∷_}
 use lib.Ieee.{Float}
 use Rattle.matrix.specs.Matrix.{row}
 use Rattle.matrix.specs.Result.{sized}
+use Rattle.matrix.specs.Kernel.{rowTimes}
 use Rattle.matrix.proofs.Matrices.{sums-none, sums-more, sums-at}
 use Rattle.matrix.proofs.Results.{or-four-at, or-four-rest}
 use borrow.Author.Needs.{needs}
@@ -12,7 +13,7 @@ use Rattle.matrix.proofs.kernel.combination.Statement.{statement}
 use Rattle.matrix.proofs.kernel.combination.Tie as tie
 
 returns : tie.Need-returns
-unfolding sized
+unfolding sized rowTimes
 returns c =
     let s1 = c .before in
     let a = s1 .before .args in
@@ -21,7 +22,7 @@ returns c =
     sums-at v R 1 _ (or-four-at 1 _ refl (c .if1 .taken)) (sums-more v R 0 (sums-none v R) refl (s1 .row-plus-scaled .ensures))
 
 returns-2 : tie.Need-returns-2
-unfolding sized
+unfolding sized rowTimes
 returns-2 c =
     let s2 = c .before in
     let s1 = s2 .before .before in
@@ -32,7 +33,7 @@ returns-2 c =
     sums-at v R 2 _ (or-four-at 2 _ refl (c .if2 .taken)) (sums-more v R 1 e1 refl (s2 .row-plus-scaled2 .ensures))
 
 returns-3 : tie.Need-returns-3
-unfolding sized
+unfolding sized rowTimes
 returns-3 c =
     let s3 = c .before in
     let s2 = s3 .before .before in
@@ -45,6 +46,7 @@ returns-3 c =
     sums-at v R 3 _ (or-four-at 3 _ refl (c .if3 .taken)) (sums-more v R 2 e2 refl (s3 .row-plus-scaled3 .ensures))
 
 returns-4 : tie.Need-returns-4
+unfolding rowTimes
 returns-4 c =
     let s3 = c .before .before in
     let s2 = s3 .before .before in

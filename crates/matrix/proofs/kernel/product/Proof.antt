@@ -8,6 +8,7 @@ use Rattle.scalar.specs.Number.{_⊗_, +0}
 use Rattle.matrix.specs.Table.{table}
 use Rattle.matrix.specs.Matrix.{cell, sum}
 use Rattle.matrix.specs.Array.{padRow}
+use Rattle.matrix.specs.Kernel.{rowTimes}
 use Rattle.matrix.proofs.Arrays.{kept-sums, rows-at, mul-used}
 use Rattle.matrix.proofs.Results.{chained-sizes, is-four}
 use Rattle.matrix.proofs.Kernels.{rows-answered, rows-refused}
@@ -16,6 +17,7 @@ use Rattle.matrix.proofs.kernel.product.Statement.{statement}
 use Rattle.matrix.proofs.kernel.product.Tie as tie
 
 returns : tie.Need-returns
+unfolding rowTimes
 returns c =
     let k1 = c .before in
     let t = k1 .before .before .before in
@@ -27,6 +29,7 @@ returns c =
     rows-answered _ e (rows-at 1 _ f (sym (c .if2 .taken)) (λ i. e0 i ∷ replicate 4 +0 ∷ replicate 4 +0 ∷ replicate 4 +0 ∷ []) (mul-used _ _ _ _ _))
 
 returns-2 : tie.Need-returns-2
+unfolding rowTimes
 returns-2 c =
     let k2 = c .before in
     let k1 = k2 .before .before .before .before in
@@ -40,6 +43,7 @@ returns-2 c =
     rows-answered _ e (rows-at 2 _ f (sym (c .if3 .taken)) (λ i. e0 i ∷ e1 i ∷ replicate 4 +0 ∷ replicate 4 +0 ∷ []) (mul-used _ _ _ _ _))
 
 returns-3 : tie.Need-returns-3
+unfolding rowTimes
 returns-3 c =
     let k3 = c .before in
     let k2 = k3 .before .before .before .before in
@@ -55,6 +59,7 @@ returns-3 c =
     rows-answered _ e (rows-at 3 _ f (sym (c .if4 .taken)) (λ i. e0 i ∷ e1 i ∷ e2 i ∷ replicate 4 +0 ∷ []) (mul-used _ _ _ _ _))
 
 returns-4 : tie.Need-returns-4
+unfolding rowTimes
 returns-4 c =
     let k3 = c .before .before .before .before in
     let k2 = k3 .before .before .before .before in

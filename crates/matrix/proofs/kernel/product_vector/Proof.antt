@@ -1,6 +1,7 @@
 -- `kernel::product_vector` meets its contract: all four components are made, and the used ones kept.
 use mathlib.Core.Path.{sym, ap, _∙_}
 use Rattle.matrix.specs.Array.{padRow}
+use Rattle.matrix.specs.Kernel.{rowTimesTransposed}
 use Rattle.matrix.proofs.Arrays.{kept-sums}
 use Rattle.matrix.proofs.Results.{sizes-of}
 use Rattle.matrix.proofs.Kernels.{matvec-transposed-used, cells-answered, cells-refused}
@@ -8,6 +9,7 @@ use Rattle.matrix.proofs.kernel.product_vector.Statement.{statement}
 use Rattle.matrix.proofs.kernel.product_vector.Tie as tie
 
 returns : tie.Need-returns
+unfolding rowTimesTransposed
 returns c =
     let e = sym (c .before .before .before .before .is-shape .ensures) ∙ c .before .before .before .if1 .taken in
     let s = sizes-of _ _ e in

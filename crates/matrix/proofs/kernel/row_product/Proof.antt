@@ -1,12 +1,14 @@
 -- `kernel::row_product` meets its contract: the rows of b are combined.
 use mathlib.Core.Path.{refl}
 use Rattle.matrix.specs.Matrix.{row}
+use Rattle.matrix.specs.Kernel.{rowTimes}
 use Rattle.matrix.proofs.Arrays.{combination-is}
 use borrow.Author.Needs.{needs}
 use Rattle.matrix.proofs.kernel.row_product.Statement.{statement}
 use Rattle.matrix.proofs.kernel.row_product.Tie as tie
 
 returns : tie.Need-returns
+unfolding rowTimes
 returns c =
     let a = c .before .before .before .before .before .args in
     combination-is (a .v) (λ t. row (a .b .now) t) _ refl refl refl refl (c .combination .ensures)

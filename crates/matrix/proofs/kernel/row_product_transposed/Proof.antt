@@ -1,12 +1,14 @@
 -- `kernel::row_product_transposed` meets its contract: the columns of b are combined.
 use Rattle.matrix.specs.Table.{table}
 use Rattle.matrix.specs.Matrix.{cell}
+use Rattle.matrix.specs.Kernel.{rowTimesTransposed}
 use Rattle.matrix.proofs.Arrays.{combination-is}
 use borrow.Author.Needs.{needs}
 use Rattle.matrix.proofs.kernel.row_product_transposed.Statement.{statement}
 use Rattle.matrix.proofs.kernel.row_product_transposed.Tie as tie
 
 returns : tie.Need-returns
+unfolding rowTimesTransposed
 returns c =
     let d = c .before in
     let b = d .before .before in

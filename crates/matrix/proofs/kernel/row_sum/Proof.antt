@@ -1,22 +1,18 @@
 -- `kernel::row_sum` meets its contract: both lists are the four sums.
 use mathlib.Core.Path.{refl}
 use native.Mathlib.Omega.{arith}
+use Rattle.matrix.specs.Matrix.{vecAdd}
 use Rattle.matrix.proofs.kernel.row_sum.Statement.{statement}
 use Rattle.matrix.proofs.kernel.row_sum.Tie as tie
 
 returns : tie.Need-returns
+unfolding vecAdd
 returns c = refl
 
 pub row-sum-spec : {M : Type 1} → statement M
 row-sum-spec =
     tie.close
     (tie.spec
-    (λ c. omega arith)
-    (λ c. omega arith)
-    (λ c. omega arith)
-    (λ c. omega arith)
-    (λ c. omega arith)
-    (λ c. omega arith)
-    (λ c. omega arith)
-    (λ c. omega arith)
+    (λ c. omega arith) (λ c. omega arith) (λ c. omega arith) (λ c. omega arith)
+    (λ c. omega arith) (λ c. omega arith) (λ c. omega arith) (λ c. omega arith)
     returns)

@@ -3,7 +3,7 @@ use Prim.Native.Nat.{_-_}
 use mathlib.Core.Path.{sym, _∙_}
 use Rattle.scalar.specs.Number.{_⊕_}
 use Rattle.matrix.specs.Table.{table}
-use Rattle.matrix.specs.Matrix.{cell}
+use Rattle.matrix.specs.Matrix.{cell, vecAdd}
 use Rattle.matrix.proofs.Arrays.{Rows, rows-none, rows-more, rows-all, kept-row}
 use Rattle.matrix.proofs.Results.{Sizes, sizes-of}
 use Rattle.matrix.proofs.Kernels.{add-used, rows-answered, rows-refused}
@@ -21,6 +21,7 @@ loop-holds : tie.Need-loop-holds Inv-loop μ-loop
 loop-holds c = (sizes-of _ _ (sym (c .before .is-shape .ensures) ∙ c .if1 .taken), rows-none _ _)
 
 loop-again : tie.Need-loop-again Inv-loop μ-loop
+unfolding vecAdd
 loop-again c =
     let v = c .before .before .before .before .before .loop .inv in
     (v .0, rows-more (v .1) (omega arith) (omega arith) (c .kept .ensures ∙ kept-row _ _ _ (v .0 .cols) (c .before .row-sum .ensures)))
