@@ -5,6 +5,7 @@ use Prim.Native.Nat.{ℕ, _<_}
 use lib.ListN.{length}
 use lib.Ieee.{Float}
 use Rattle.scalar.specs.Number.{_⊕_, _⊖_, _⊗_}
+use Rattle.scalar.proofs.Product.{times-comm}
 use Rattle.matrix.specs.Table.{table}
 use Rattle.matrix.specs.Matrix.{Vector, Matrix, at, cell, mat, sum, vecAdd, vecSub, vecScale, dot, matvec, outer}
 use Rattle.matrix.specs.Array.{cut, padRow}
@@ -15,10 +16,10 @@ use Rattle.matrix.proofs.Results.{Size}
 use Rattle.matrix.proofs.Arrays.{at-cut, kept-row}
 
 -- ---- the used parts: their components are those that the code reads
-pub each-cut : (f : Float → Float) (n : ℕ) (v : List Float) → table n (λ i. f (at (cut n v) i)) ≡ table n (λ i. f (at v i))
+each-cut : (f : Float → Float) (n : ℕ) (v : List Float) → table n (λ i. f (at (cut n v) i)) ≡ table n (λ i. f (at v i))
 each-cut f n v = table-ext n (λ i. f (at (cut n v) i)) (λ i. f (at v i)) (λ i h. ap f (at-cut n v i h))
 
-pub pair-cut : (f : Float → Float → Float) (n : ℕ) (v w : List Float) → table n (λ i. f (at (cut n v) i) (at (cut n w) i)) ≡ table n (λ i. f (at v i) (at w i))
+pair-cut : (f : Float → Float → Float) (n : ℕ) (v w : List Float) → table n (λ i. f (at (cut n v) i) (at (cut n w) i)) ≡ table n (λ i. f (at v i) (at w i))
 pair-cut f n v w =
     table-ext n (λ i. f (at (cut n v) i) (at (cut n w) i)) (λ i. f (at v i) (at w i)) (λ i h. ap₂ f (at-cut n v i h) (at-cut n w i h))
 
@@ -38,11 +39,12 @@ dot-ext n v w v′ w′ p q =
 pub dot-cut : (n : ℕ) (v w : List Float) → dot n (cut n v) (cut n w) ≡ dot n v w
 dot-cut n v w = dot-ext n (cut n v) (cut n w) v w (at-cut n v) (at-cut n w)
 
-pub outer-cut : (r c : ℕ) (v w : List Float) → outer r c (cut r v) (cut c w) ≡ mat r c (λ i j. at v i ⊗ at w j)
+-- row i is w scaled: a product does not depend on the order of its factors
+pub outer-cut : (r c : ℕ) (v w : List Float) → outer r c (cut r v) (cut c w) ≡ mat r c (λ i j. at w j ⊗ at v i)
 unfolding outer
 outer-cut r c v w =
-    mat-ext r c (λ i j. at (cut r v) i ⊗ at (cut c w) j) (λ i j. at v i ⊗ at w j)
-    (λ i j h g. ap₂ (λ (x y : Float). x ⊗ y) (at-cut r v i h) (at-cut c w j g))
+    mat-ext r c (λ i j. at (cut r v) i ⊗ at (cut c w) j) (λ i j. at w j ⊗ at v i)
+    (λ i j h g. ap₂ (λ (x y : Float). x ⊗ y) (at-cut r v i h) (at-cut c w j g) ∙ times-comm (at v i) (at w j))
 
 -- ---- how long a result is, and its shape
 pub length-vecAdd : (n : ℕ) (v w : Vector) → length (vecAdd n v w) ≡ n

@@ -18,12 +18,10 @@ use scalar::ControlScalar;
 ghost use mathlib.Core.Path.{_≡_};
 ghost use Prim.Native.Nat.{_≤_};
 ghost use Rattle.matrix.specs.Answer.{where-sized};
-ghost use Rattle.matrix.specs.Table.{table};
-ghost use Rattle.matrix.specs.Matrix.{at, matvec as matvecOf, outer as outerOf, vecAdd, vecSub, vecScale, dot, vecNorm};
+ghost use Rattle.matrix.specs.Matrix.{matvec as matvecOf, outer as outerOf, vecAdd, vecSub, vecScale, dot, vecNorm};
 ghost use Rattle.matrix.specs.Array.{cut, used, pad};
 ghost use Rattle.matrix.specs.Result.{asMatrix, asVector, asScalar, sized, shaped};
 ghost use Rattle.matrix.specs.Kernel.{paired, applicable};
-ghost use Rattle.scalar.specs.Number.{_⊗_};
 
 // ---- products
 
@@ -38,20 +36,13 @@ pub fn matvec(a: [[f64; 4]; 4], r: usize, c: usize, v: [f64; 4], n: usize) -> Ve
     }
 }
 
-// x times each of the four numbers of w.
-fn times_row(x: f64, w: [f64; 4]) -> [f64; 4]
-    ensures { λ r. ⌜ r ≡ table 4 (λ j. x ⊗ at w j) ⌝ }
-{
-    [x * w[0], x * w[1], x * w[2], x * w[3]]
-}
-
 fn outer_rows(v: [f64; 4], r: usize, w: [f64; 4], c: usize) -> [[f64; 4]; 4]
     requires { ⌜ (r ≤ 4) × (1 ≤ c) × (c ≤ 4) ⌝ }
     ensures { λ p. ⌜ p ≡ pad (outerOf r c (cut r v) (cut c w)) ⌝ }
 {
     let mut out = [[0.0; 4]; 4];
     for i in 0..r {
-        out[i] = kept(times_row(v[i], w), c);
+        out[i] = kept(kernel::row_scaled(w, v[i]), c);
     }
     out
 }

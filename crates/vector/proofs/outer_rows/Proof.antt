@@ -1,9 +1,9 @@
--- `outer_rows` meets its contract: a loop over the rows, each a component of v times w.
+-- `outer_rows` meets its contract: a loop over the rows, each w times a component of v.
 use Prim.Native.Nat.{_-_}
 use mathlib.Core.Path.{_∙_}
 use Rattle.scalar.specs.Number.{_⊗_}
 use Rattle.matrix.specs.Table.{table}
-use Rattle.matrix.specs.Matrix.{at}
+use Rattle.matrix.specs.Matrix.{at, vecScale}
 use Rattle.matrix.proofs.Arrays.{Rows, rows-none, rows-more, rows-all, kept-row}
 use Rattle.matrix.proofs.Results.{size}
 use Rattle.matrix.proofs.Vectors.{outer-cut}
@@ -12,7 +12,7 @@ use Rattle.vector.proofs.outer_rows.Statement.{statement}
 use Rattle.vector.proofs.outer_rows.Tie as tie
 
 abbrev Inv-loop : tie.InvT-loop
-Inv-loop r w c v out₀ i₀ out i = Rows (λ i. table c (λ j. at v i ⊗ at w j)) r i out
+Inv-loop r w c v out₀ i₀ out i = Rows (λ i. table c (λ j. at w j ⊗ at v i)) r i out
 
 abbrev μ-loop : tie.MeasureT-loop
 μ-loop r w c v out₀ i₀ out i = r - i
@@ -21,7 +21,8 @@ loop-holds : tie.Need-loop-holds Inv-loop μ-loop
 loop-holds c = rows-none _ _
 
 loop-again : tie.Need-loop-again Inv-loop μ-loop
-loop-again c = rows-more (c .before .before .before .loop .inv) (omega arith) (omega arith) (c .kept .ensures ∙ kept-row _ _ _ (size (omega arith) (omega arith)) (c .before .times-row .ensures))
+unfolding vecScale
+loop-again c = rows-more (c .before .before .before .loop .inv) (omega arith) (omega arith) (c .kept .ensures ∙ kept-row _ _ _ (size (omega arith) (omega arith)) (c .before .row-scaled .ensures))
 
 returns : tie.Need-returns Inv-loop μ-loop
 returns c = rows-all (c .before .loop .inv) (omega arith) (outer-cut _ _ _ _)
