@@ -15,7 +15,7 @@ use Rattle.matrix.proofs.Results.{Size, size-of, sizes-of, sized-true, shaped-t
 use Rattle.matrix.proofs.Kernels.{rows-sized, cells-sized}
 use Rattle.buffer.specs.Buffer.{vectorAt, matrixAt, joined, placed, room}
 
-pub room-true : (k n m : ℕ) → k + n ≤ m → room k n m ≡ true
+room-true : (k n m : ℕ) → k + n ≤ m → room k n m ≡ true
 unfolding room
 room-true k n m h = le-leb (k + n) m h
 

@@ -32,7 +32,7 @@ unfolding room
 room-none k n m h = sym (lt-leb (k + n) m (omega arith))
 
 -- ---- numbers that are placed
-pub length-placed : (k : ℕ) (l b : List Float) → k + length l ≤ length b → length (placed k l b) ≡ length b
+length-placed : (k : ℕ) (l b : List Float) → k + length l ≤ length b → length (placed k l b) ≡ length b
 unfolding placed
 length-placed k l b h = simp (length-append, length-take, length-drop) (omega arith)
 
@@ -42,12 +42,12 @@ placed-none k b =
     let e : k + 0 ≡ k = omega arith in
     ap₂ (λ (l : List Float) (j : ℕ). l ++ drop j b) (append-nil (take k b)) e ∙ take-append-drop k b
 
-pub set-placed : (k : ℕ) (x : Float) (b : List Float) → k < length b → set b k x ≡ placed k (x ∷ []) b
+set-placed : (k : ℕ) (x : Float) (b : List Float) → k < length b → set b k x ≡ placed k (x ∷ []) b
 unfolding placed
 set-placed k x b h = set-split b k x h ∙ sym (append-snoc (take k b) x (drop (suc k) b)) ∙ ap (λ (j : ℕ). take k b ++ (x ∷ []) ++ drop j b) (sym (add-one k))
 
 -- m right after l
-pub placed-after : (k : ℕ) (l m b : List Float) → k ≤ length b → placed (k + length l) m (placed k l b) ≡ placed k (l ++ m) b
+placed-after : (k : ℕ) (l m b : List Float) → k ≤ length b → placed (k + length l) m (placed k l b) ≡ placed k (l ++ m) b
 unfolding placed
 placed-after k l m b h =
     let front = take k b ++ l in
@@ -64,7 +64,7 @@ pub then-placed : {k q : ℕ} (l m b : List Float) {b₁ b₂ : List Float} → 
 then-placed {k} {q} l m b h e p r = r ∙ ap₂ (λ (j : ℕ) (c : List Float). placed j m c) e p ∙ placed-after k l m b h
 
 -- one number more right after l, which b₁ has
-pub placed-next : (k : ℕ) (l : List Float) (x : Float) (b : List Float) {b₁ : List Float} → k + length l < length b → b₁ ≡ placed k l b → set b₁ (k + length l) x ≡ placed k (l ++ (x ∷ [])) b
+placed-next : (k : ℕ) (l : List Float) (x : Float) (b : List Float) {b₁ : List Float} → k + length l < length b → b₁ ≡ placed k l b → set b₁ (k + length l) x ≡ placed k (l ++ (x ∷ [])) b
 placed-next k l x b h e =
     let long = ap length e ∙ length-placed k l b (omega arith) in
     then-placed l (x ∷ []) b (omega arith) refl e (set-placed (k + length l) x _ (omega (arith, long)))
@@ -88,7 +88,7 @@ joined-more zero f = append-nil (f zero)
 joined-more (suc i) f =
     ap (λ (t : List Float). f zero ++ t) (joined-more i (λ j. f (suc j))) ∙ sym (append-assoc (f zero) (joined (table i (λ j. f (suc j)))) (f (suc i)))
 
-pub length-joined : (i w : ℕ) (f : ℕ → List Float) → ((j : ℕ) → j < i → length (f j) ≡ w) → length (joined (table i f)) ≡ i * w
+length-joined : (i w : ℕ) (f : ℕ → List Float) → ((j : ℕ) → j < i → length (f j) ≡ w) → length (joined (table i f)) ≡ i * w
 length-joined zero w f e = omega arith
 length-joined (suc i) w f e =
     length-append (f zero) (joined (table i (λ j. f (suc j))))

@@ -12,7 +12,7 @@ ghost use Rattle.matrix.specs.Kernel.{rowsOf, cellsOf};
 ghost use Rattle.buffer.specs.Buffer.{vectorAt, matrixAt, joined, placed, room};
 
 // n numbers from number k on lie within a buffer of len numbers.
-pub fn is_room(k: usize, n: usize, len: usize) -> bool
+fn is_room(k: usize, n: usize, len: usize) -> bool
     ensures { λ t. ⌜ t ≡ room k n len ⌝ }
 {
     if n <= len { k <= len - n } else { false }

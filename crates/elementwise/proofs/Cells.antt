@@ -60,7 +60,7 @@ squaring-all {a} {r} {c} {i} {s} e h =
     e .is ∙ ap (λ (m : ℕ). squares m c (used r c a)) same
 
 -- ---- tests that all hold
-pub every-ext : (n : ℕ) (f g : ℕ → Bool) → ((i : ℕ) → i < n → f i ≡ g i) → every n f ≡ every n g
+every-ext : (n : ℕ) (f g : ℕ → Bool) → ((i : ℕ) → i < n → f i ≡ g i) → every n f ≡ every n g
 unfolding every
 every-ext zero f g h = refl
 every-ext (suc n) f g h = ap₂ (λ (x y : Bool). x && y) (every-ext n f g (λ i l. h i (le-of-lt (suc-le-suc l)))) (h n (le-refl (suc n)))

@@ -24,7 +24,7 @@ module _ {A : Type 0} where
   set-table (suc n) f t zero x h = simp eqb·suc-zero
   set-table (suc n) f t (suc i) x h = simp (eqb·zero-suc, eqb·suc-suc) (ap (λ (l : List A). f zero ∷ l) (set-table n (λ p. f (suc p)) t i x (le-of-suc-le-suc h)))
 
-  pub store-padTo : (m n : ℕ) (z : A) (f : ℕ → A) (i : ℕ) (x : A) → i < n → set (padTo m z (table n f)) i x ≡ padTo m z (table n (λ p. cond (eqb p i) x (f p)))
+  store-padTo : (m n : ℕ) (z : A) (f : ℕ → A) (i : ℕ) (x : A) → i < n → set (padTo m z (table n f)) i x ≡ padTo m z (table n (λ p. cond (eqb p i) x (f p)))
   store-padTo m n z f i x h =
       ap (λ (l : List A). set l i x) (sym (filled-pad m n z f))
       ∙ set-table n f (drop n (replicate m z)) i x h

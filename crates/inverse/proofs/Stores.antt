@@ -14,7 +14,7 @@ use Rattle.matrix.specs.Matrix.{Vector, Matrix, at, row, cell}
 use Rattle.matrix.proofs.Tables.{length-table, getD-table, filled}
 
 -- ---- a cell after a store
-pub row-set : (a : Matrix) (c : ℕ) (x : Vector) (i : ℕ) → i < length a → row (set a c x) i ≡ cond (eqb i c) x (row a i)
+row-set : (a : Matrix) (c : ℕ) (x : Vector) (i : ℕ) → i < length a → row (set a c x) i ≡ cond (eqb i c) x (row a i)
 row-set a c x i h = pick (eqb i c) refl
   where
     pick : (b : Bool) → eqb i c ≡ b → row (set a c x) i ≡ cond b x (row a i)

@@ -92,16 +92,6 @@ pub shape-sub : (r c : ℕ) (A B : Matrix) → Shape r c (sub r c A B)
 unfolding sub
 shape-sub r c A B = shape-mat r c (λ i j. cell A i j ⊖ cell B i j)
 
--- ---- four rows of four that stand flat
-
-pub shape-rowsOfFlat : (f : List Float) → Shape 4 4 (rowsOfFlat f)
-unfolding rowsOfFlat usedFlat
-shape-rowsOfFlat f = shape-mat 4 4 (λ i j. getD f (i * 4 + j) nan)
-
-pub length-flatOfRows : (a : List (List Float)) → length (flatOfRows a) ≡ 16
-unfolding flatOfRows
-length-flatOfRows a = refl
-
 -- a matrix is its own used part
 pub used-all : (r c : ℕ) (A : Matrix) → Shape r c A → used r c A ≡ A
 unfolding used cut
@@ -110,12 +100,13 @@ used-all r c A s =
     ∙ ap (λ (k : ℕ). table k (λ i. row A i)) (sym (s .rows))
     ∙ table-getD A []
 
+-- ---- four rows of four that stand flat
 pub used-rowsOfFlat : (r c : ℕ) (f : List Float) → r ≤ 4 → c ≤ 4 → used r c (rowsOfFlat f) ≡ usedFlat r c f
 unfolding used cut usedFlat rowsOfFlat
 used-rowsOfFlat r c f hr hc =
     mat-ext r c (λ i j. cell (rowsOfFlat f) i j) (λ i j. getD f (i * 4 + j) nan) (λ i j h g. cell-mat 4 4 (λ p q. getD f (p * 4 + q) nan) i j (omega arith) (omega arith))
 
-pub usedFlat-flatOfRows : (r c : ℕ) (a : List (List Float)) → r ≤ 4 → c ≤ 4 → usedFlat r c (flatOfRows a) ≡ used r c a
+usedFlat-flatOfRows : (r c : ℕ) (a : List (List Float)) → r ≤ 4 → c ≤ 4 → usedFlat r c (flatOfRows a) ≡ used r c a
 unfolding used cut usedFlat flatOfRows
 usedFlat-flatOfRows r c a hr hc =
     mat-ext r c (λ i j. getD (flatOfRows a) (i * 4 + j) nan) (λ i j. cell a i j)
@@ -126,12 +117,3 @@ usedFlat-flatOfRows r c a hr hc =
 
 pub usedFlat-pad : (r c : ℕ) (A : Matrix) → Shape r c A → r ≤ 4 → c ≤ 4 → usedFlat r c (flatOfRows (pad A)) ≡ A
 usedFlat-pad r c A s hr hc = usedFlat-flatOfRows r c (pad A) hr hc ∙ used-pad r c A s
-
--- one undoes the other
-pub rows-flat-rows : (a : List (List Float)) → Shape 4 4 a → rowsOfFlat (flatOfRows a) ≡ a
-unfolding rowsOfFlat
-rows-flat-rows a s = usedFlat-flatOfRows 4 4 a (omega arith) (omega arith) ∙ used-all 4 4 a s
-
-pub flat-rows-flat : (f : List Float) → length f ≡ 16 → flatOfRows (rowsOfFlat f) ≡ f
-unfolding flatOfRows rowsOfFlat usedFlat
-flat-rows-flat f e = ap (λ (n : ℕ). table n (λ i. getD f i nan)) (sym e) ∙ table-getD f nan

@@ -94,14 +94,6 @@ chained-true {r} {k} {c} a m b = λ i. shaped-true a m i && (shaped-true m b i &
 pub chained-inner : (ar ac br bc : ℕ) → chained ar ac br bc ≡ true → chained ar ac ac bc ≡ true
 chained-inner ar ac br bc e = let s = chained-sizes ar ac br bc e in chained-true (s .rows) (s .inner) (s .cols)
 
-pub shaped-square : (n : ℕ) → shaped n n ≡ sized n
-unfolding shaped
-shaped-square n = same (sized n)
-  where
-    same : (b : Bool) → b && b ≡ b
-    same true = refl
-    same false = refl
-
 -- ---- a size, or 4
 pub or-four-size : {n : ℕ} → Size n → sizeOrFour n ≡ n
 unfolding sizeOrFour
@@ -148,11 +140,6 @@ module _ {A R : Type 0} (g : Answer A → R) {t : Bool} where
   -- what a caller has of a call that was answered
   pub as-sized : (x : A) {y : R} → t ≡ true → y ≡ g (where-sized t x) → y ≡ g (answered x)
   as-sized x e p = p ∙ ap (λ (b : Bool). g (where-sized b x)) e
-
--- where the test fails, what would have been answered does not matter
-pub where-ext : {A : Type 0} (t : Bool) (x y : A) → (t ≡ true → x ≡ y) → where-sized t x ≡ where-sized t y
-where-ext true x y h = ap answered (h refl)
-where-ext false x y h = refl
 
 module _ {t : Bool} where
   pub matrix-answered : (A : Matrix) {rows : List (List Float)} → t ≡ true → rows ≡ pad A → matrixResult Done rows ≡ asMatrix (where-sized t A)
