@@ -3,11 +3,12 @@
 use matrix::MatrixResult;
 use matrix::ScalarResult;
 use matrix::Status;
+use matrix::kernel;
 use scalar::ControlScalar;
 ghost use mathlib.Core.Path.{_≡_};
 ghost use Prim.Native.Nat.{_≤_, _<_};
 ghost use Rattle.matrix.specs.Answer.{if-sized};
-ghost use Rattle.matrix.specs.Matrix.{row, dot};
+ghost use Rattle.matrix.specs.Matrix.{row};
 ghost use Rattle.matrix.specs.Array.{used, padRow};
 ghost use Rattle.matrix.specs.Result.{asMatrix, asScalar, sized};
 ghost use Rattle.cholesky.specs.Cholesky.{diagonalOf, leftCells, choleskyOf};
@@ -23,18 +24,6 @@ pub fn diagonal_root(d: f64) -> ScalarResult
     }
 }
 
-// The sum of the first n products of v and w.
-fn products<'a>(v: &'a [f64; 4], w: &'a [f64; 4], n: usize) -> f64
-    requires { ⌜ n ≤ 4 ⌝ }
-    ensures { λ s. ⌜ s ≡ dot n (now (v .entry)) (now (w .entry)) ⌝ }
-{
-    let mut sum = 0.0;
-    for k in 0..n {
-        sum = sum + v[k] * w[k];
-    }
-    sum
-}
-
 // Row i of the factor left of the diagonal, and +0 from there; l has the rows above.
 fn left_cells<'a>(a: &'a [[f64; 4]; 4], l: &'a [[f64; 4]; 4], i: usize) -> [f64; 4]
     requires { ⌜ i < 4 ⌝ }
@@ -42,7 +31,7 @@ fn left_cells<'a>(a: &'a [[f64; 4]; 4], l: &'a [[f64; 4]; 4], i: usize) -> [f64;
 {
     let mut v = [0.0; 4];
     for j in 0..i {
-        let sum = products(&v, &l[j], j);
+        let sum = kernel::dot(&v, &l[j], j);
         v[j] = (a[i][j] - sum) / l[j][j];
     }
     v
@@ -56,7 +45,7 @@ fn factor_rows(a: &[[f64; 4]; 4], n: usize) -> MatrixResult
     let mut l = [[0.0; 4]; 4];
     for i in 0..n {
         let mut v = left_cells(a, &l, i);
-        let d = a[i][i] - products(&v, &v, i);
+        let d = a[i][i] - kernel::dot(&v, &v, i);
         match diagonal_root(d) {
             ScalarResult::Value(x) => {
                 v[i] = x;

@@ -1,10 +1,14 @@
 -- Laws of vectors: what a result reads, and how long it is. Assumes nothing.
 use mathlib.Core.Path.{_≡_, sym, ap, ap₂, _∙_}
 use mathlib.Core.List.{List}
-use Prim.Native.Nat.{ℕ, _<_}
+use mathlib.Core.Bool.{cond}
+use Prim.Native.Nat.{ℕ, _≤_, _<_}
+use lib.Dec.{leb}
+use borrow.Author.Tests.{le-leb}
 use lib.ListN.{length}
 use lib.Ieee.{Float}
-use Rattle.scalar.specs.Number.{_⊕_, _⊖_, _⊗_}
+use Rattle.scalar.specs.Number.{_⊕_, _⊖_, _⊗_, +0}
+use Rattle.scalar.proofs.Choice.{cond-true}
 use Rattle.scalar.proofs.Product.{times-comm}
 use Rattle.matrix.specs.Table.{table}
 use Rattle.matrix.specs.Matrix.{Vector, Matrix, at, cell, mat, sum, vecAdd, vecSub, vecScale, dot, matvec, outer}
@@ -38,6 +42,10 @@ dot-ext n v w v′ w′ p q =
 
 pub dot-cut : (n : ℕ) (v w : List Float) → dot n (cut n v) (cut n w) ≡ dot n v w
 dot-cut n v w = dot-ext n (cut n v) (cut n w) v w (at-cut n v) (at-cut n w)
+
+-- what a caller has of the kernel's sum where n is at most 4
+pub dot-sized : (n : ℕ) {x s : Float} → s ≡ cond (leb n 4) x +0 → n ≤ 4 → s ≡ x
+dot-sized n e h = e ∙ cond-true _ _ (le-leb n 4 h)
 
 -- row i is w scaled: a product does not depend on the order of its factors
 pub outer-cut : (r c : ℕ) (v w : List Float) → outer r c (cut r v) (cut c w) ≡ mat r c (λ i j. at w j ⊗ at v i)

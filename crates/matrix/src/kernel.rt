@@ -6,11 +6,14 @@ use crate::is_shape;
 use crate::is_size;
 use crate::kept;
 ghost use mathlib.Core.Path.{_≡_};
+ghost use mathlib.Core.Bool.{cond};
 ghost use mathlib.Core.List.{[], _∷_};
 ghost use Prim.Native.Nat.{_+_, _≤_, _<_};
+ghost use lib.Dec.{leb};
+ghost use Rattle.scalar.specs.Number.{+0};
 ghost use Rattle.matrix.specs.Answer.{where-sized};
 ghost use Rattle.matrix.specs.Table.{table};
-ghost use Rattle.matrix.specs.Matrix.{at, cell, identity, transpose, add, sub, mul, matvec, vecAdd, vecSub, vecScale};
+ghost use Rattle.matrix.specs.Matrix.{at, cell, identity, transpose, add, sub, mul, matvec, vecAdd, vecSub, vecScale, dot as dotOf};
 ghost use Rattle.matrix.specs.Array.{cut, used};
 ghost use Rattle.matrix.specs.Result.{sized, sizeOrFour, shaped, chained};
 ghost use Rattle.matrix.specs.Kernel.{rowsOf, cellsOf, plusScaled, rowTimes, rowTimesTransposed, rowsOfFlat, flatOfRows};
@@ -229,6 +232,19 @@ pub fn vector_difference(v: [f64; 4], w: [f64; 4], n: usize) -> [f64; 4]
     } else {
         [0.0; 4]
     }
+}
+
+// The sum of the first n products of v and w; +0 where n is above 4.
+pub fn dot<'a>(v: &'a [f64; 4], w: &'a [f64; 4], n: usize) -> f64
+    ensures { λ s. ⌜ s ≡ cond (leb n 4) (dotOf n (now (v .entry)) (now (w .entry))) +0 ⌝ }
+{
+    let mut s = 0.0;
+    if n <= 4 {
+        for i in 0..n {
+            s = s + v[i] * w[i];
+        }
+    }
+    s
 }
 
 // ---- a record's flat cells

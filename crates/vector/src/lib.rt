@@ -94,22 +94,11 @@ pub fn vec_scale(a: [f64; 4], n: usize, s: f64) -> VectorResult
 
 // ---- sums
 
-fn dot_of(a: [f64; 4], b: [f64; 4], n: usize) -> f64
-    requires { ⌜ n ≤ 4 ⌝ }
-    ensures { λ s. ⌜ s ≡ dot n a b ⌝ }
-{
-    let mut s = 0.0;
-    for i in 0..n {
-        s = s + a[i] * b[i];
-    }
-    s
-}
-
 pub fn vec_dot(a: [f64; 4], n: usize, b: [f64; 4], m: usize) -> ScalarResult
     ensures { λ r. ⌜ r ≡ asScalar (where-sized (paired n m) (dot n (cut n a) (cut n b))) ⌝ }
 {
     if is_paired(n, m) {
-        ScalarResult::Value(dot_of(a, b, n))
+        ScalarResult::Value(kernel::dot(&a, &b, n))
     } else {
         ScalarResult::Refused(1)
     }
@@ -119,7 +108,7 @@ pub fn vec_norm(a: [f64; 4], n: usize) -> ScalarResult
     ensures { λ r. ⌜ r ≡ asScalar (where-sized (sized n) (vecNorm n (cut n a))) ⌝ }
 {
     if is_size(n) {
-        ScalarResult::Value(ControlScalar::sqrt(dot_of(a, a, n)))
+        ScalarResult::Value(ControlScalar::sqrt(kernel::dot(&a, &a, n)))
     } else {
         ScalarResult::Refused(1)
     }

@@ -6,6 +6,7 @@ use borrow.Author.Needs.{needs}
 use Rattle.matrix.specs.declared.Status.the-variants.{Done}
 use Rattle.matrix.specs.Result.{matrixResult, asMatrix}
 use Rattle.matrix.proofs.Results.{answered-value, refused-number}
+use Rattle.matrix.proofs.Vectors.{dot-sized}
 use Rattle.cholesky.proofs.Laws.{cholesky-used}
 use Rattle.cholesky.proofs.Loops.{Factoring, factoring-none, factoring-more, factoring-refused, factoring-all}
 use Rattle.cholesky.proofs.factor_rows.Statement.{statement}
@@ -21,16 +22,18 @@ loop-again : tie.Need-loop-again Inv-loop μ-loop
 loop-again c =
     let d = c .before .before .before in
     let v = d .before .before .before .before .before in
-    factoring-more (v .before .before .before .loop .inv) (omega arith) (omega arith) (v .left-cells .ensures) (d .before .products .ensures)
+    let e = v .before .before .before .loop in
+    factoring-more (e .inv) (omega arith) (omega arith) (v .left-cells .ensures) (dot-sized (e .i) (d .before .dot .ensures) (omega arith))
     (answered-value _ (d .diagonal-root .ensures) (c .before .x .given .1))
 
 returns : tie.Need-returns Inv-loop μ-loop
 returns c =
     let d = c .before .before .before .before in
     let v = d .before .before .before .before .before in
+    let e = v .before .before .before .loop in
     c .matrix-refused .ensures
     ∙ sym (ap asMatrix (cholesky-used _ _
-    ∙ factoring-refused (v .before .before .before .loop .inv) (omega arith) (omega arith) (v .left-cells .ensures) (d .before .products .ensures)
+    ∙ factoring-refused (e .inv) (omega arith) (omega arith) (v .left-cells .ensures) (dot-sized (e .i) (d .before .dot .ensures) (omega arith))
     (refused-number _ (d .diagonal-root .ensures) (c .before .before .number .given .1))))
 
 returns-2 : tie.Need-returns-2 Inv-loop μ-loop
@@ -52,7 +55,7 @@ factor-rows-spec =
     (λ c. omega arith)
     (λ c. omega arith)
     (λ c. omega arith)
-    (λ c κs. omega arith)
+    (λ c κs. tt)
     (λ c κs. search needs)
     (λ c. search needs)
     (λ c. omega arith)

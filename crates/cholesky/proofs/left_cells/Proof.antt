@@ -2,6 +2,7 @@
 use Prim.Native.Nat.{_-_}
 use native.Mathlib.Omega.{arith}
 use Rattle.matrix.specs.Matrix.{row}
+use Rattle.matrix.proofs.Vectors.{dot-sized}
 use Rattle.cholesky.proofs.Loops.{Lefts, lefts-none, lefts-more, lefts-all}
 use Rattle.cholesky.proofs.left_cells.Statement.{statement}
 use Rattle.cholesky.proofs.left_cells.Tie as tie
@@ -16,7 +17,9 @@ loop-holds : tie.Need-loop-holds Inv-loop μ-loop
 loop-holds c = lefts-none _ _ _
 
 loop-again : tie.Need-loop-again Inv-loop μ-loop
-loop-again c = lefts-more (c .before .before .before .before .before .before .loop .inv) (omega arith) (omega arith) (c .before .before .products .ensures)
+loop-again c =
+    let e = c .before .before .before .before .before .before .loop in
+    lefts-more (e .inv) (omega arith) (omega arith) (dot-sized (e .j) (c .before .before .dot .ensures) (omega arith))
 
 returns : tie.Need-returns Inv-loop μ-loop
 returns c = lefts-all (c .before .loop .inv) (omega arith)
@@ -30,7 +33,7 @@ left-cells-spec =
     loop-holds
     (λ c. omega arith)
     (λ c. omega arith)
-    (λ c κs. omega arith)
+    (λ c κs. tt)
     (λ c. omega arith)
     (λ c. omega arith)
     (λ c. omega arith)
