@@ -13,7 +13,7 @@ use lib.Ieee.{Float, nan}
 use Rattle.scalar.specs.Number.{_⊖_, _⊗_}
 use Rattle.scalar.proofs.Choice.{cond-true, cond-false}
 use Rattle.matrix.specs.Table.{table}
-use Rattle.matrix.specs.Matrix.{Vector, Matrix, at, row, cell}
+use Rattle.matrix.specs.Matrix.{Vector, Matrix, at, row, cell, vecScale}
 use Rattle.matrix.specs.Array.{cut, used}
 use Rattle.matrix.proofs.Tables.{getD-table, filled, filled-more, length-filled}
 use Rattle.matrix.proofs.Matrices.{mat-ext}
@@ -32,12 +32,12 @@ module _ (n : ℕ) (a : Matrix) (long : n ≤ length a) where
       cell-set (set a p (row a c)) c (row a p) i j (subst (λ (k : ℕ). i < k) (sym (length-set a p (row a c))) (le-trans hi long))
       ∙ ap (cond (eqb i c) (cell a p j)) (cell-set a p (row a c) i j (le-trans hi long)))
 
-  pub scaled-used : (c : ℕ) (s : Float) → n ≤ 4 → c < n → used n n (set a c (table 4 (λ j. cell a c j ⊗ s))) ≡ scaledRow n c s (used n n a)
-  unfolding used cut scaledRow
+  pub scaled-used : (c : ℕ) (s : Float) → n ≤ 4 → c < n → used n n (set a c (vecScale 4 (row a c) s)) ≡ scaledRow n c s (used n n a)
+  unfolding used cut scaledRow vecScale
   scaled-used c s four hc =
       mat-ext n n _ _
       (λ i j hi hj.
-      cell-set a c (table 4 (λ j. cell a c j ⊗ s)) i j (le-trans hi long)
+      cell-set a c (vecScale 4 (row a c) s) i j (le-trans hi long)
       ∙ ap (λ (x : Float). cond (eqb i c) x (cell a i j)) (getD-table 4 (λ j. cell a c j ⊗ s) j nan (le-trans hj four))
       ∙ sym (λ k. cond (eqb i c) (cell-used n n a c j hc hj k ⊗ s) (cell-used n n a i j hi hj k)))
 

@@ -4,9 +4,7 @@ use mathlib.Core.List.{List}
 use Prim.Native.Nat.{ℕ}
 use lib.ListN.{length, set}
 use lib.Ieee.{Float}
-use Rattle.scalar.specs.Number.{_⊗_}
-use Rattle.matrix.specs.Table.{table}
-use Rattle.matrix.specs.Matrix.{row, cell}
+use Rattle.matrix.specs.Matrix.{row, vecScale}
 use Rattle.matrix.specs.Array.{cut, used}
 use Rattle.inverse.specs.Inverse.{_∣_, reduced, exchanged, cleared}
 
@@ -18,7 +16,7 @@ pub record Swap (p q : ℕ) (m m′ : Array) : Type 0 where
 
 -- all four columns
 pub record Scale (c : ℕ) (s : Float) (m m′ : Array) : Type 0 where
-  pub is : m′ ≡ set m c (table 4 (λ j. cell m c j ⊗ s))
+  pub is : m′ ≡ set m c (vecScale 4 (row m c) s)
 
 pub record Reduce (n c : ℕ) (f : List Float) (m m′ : Array) : Type 0 where
   pub is : used n n m′ ≡ reduced n c (cut n f) (used n n m)

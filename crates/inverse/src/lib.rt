@@ -62,8 +62,7 @@ fn scale_row(m: &mut [[f64; 4]; 4], col: usize, s: f64)
     requires { ⌜ col < 4 ⌝ }
     ensures { λ r. ⌜ Scale col s (now (m .entry)) (now (m .exit)) ⌝ }
 {
-    let v = m[col];
-    m[col] = [v[0] * s, v[1] * s, v[2] * s, v[3] * s];
+    m[col] = kernel::row_scaled(m[col], s);
 }
 
 // The factors of the rows: what stands in column col.
