@@ -155,7 +155,7 @@ flatPart r c a = flatOfRows (rowsOf (where-sized (shaped r c) (used r c a)))
 pub new-done : (n m i : ℕ) (a b h q r p0 : List (List Float)) (x0 : List Float) {fa fb fh fq fr fx fp : List Float} → wellSized n m i ≡ true
     → fa ≡ flatPart n n a → fb ≡ flatPart n i b → fh ≡ flatPart m n h → fq ≡ flatPart n n q → fr ≡ flatPart m m r → fx ≡ padRow (cut (sizeOrFour n) x0) → fp ≡ flatPart n n p0
     → _≡_ {A = Stepped} (record { answer = Done; filter = record { n = n; m = m; i = i; a = fa; b = fb; h = fh; q = fq; r = fr; x = fx; p = fp } })
-    (newOf (modelFrom n m i a b h q r) (record { state = cut n x0; covariance = used n n p0 }))
+    (newOf (modelFrom n m i a b h q r) (estimateFrom n x0 p0))
 new-done n m i a b h q r p0 x0 t ea eb eh eq er ex ep =
     let s = well-sized n m i t in
     let N = size-of n (s .states) in
@@ -176,9 +176,9 @@ new-done n m i a b h q r p0 x0 t ea eb eh eq er ex ep =
         p = flat-sized _ (shaped-true N N) ep k;
       };
     })
-    ∙ ap (λ (c : Bool). stepped noFilter (where-sized c (recordOf (modelFrom n m i a b h q r) (record { state = cut n x0; covariance = used n n p0 })))) (sym t)
+    ∙ ap (λ (c : Bool). stepped noFilter (where-sized c (recordOf (modelFrom n m i a b h q r) (estimateFrom n x0 p0)))) (sym t)
 
 pub reset-done : {t : Bool} (f : KalmanFilter) (x : List Float) (p : List (List Float)) {fx fp : List Float} → t ≡ true → Size (f .n)
     → fx ≡ padRow (cut (sizeOrFour (f .n)) x) → fp ≡ flatPart (f .n) (f .n) p
-    → _≡_ {A = Stepped} (record { answer = Done; filter = keeping f fx fp }) (stepped f (where-sized t (holding f (record { state = cut (f .n) x; covariance = used (f .n) (f .n) p }))))
-reset-done f x p h N ex ep = step-done f (record { state = cut (f .n) x; covariance = used (f .n) (f .n) p }) h (ex ∙ kept-sized (f .n) x N) (flat-sized _ (shaped-true N N) ep)
+    → _≡_ {A = Stepped} (record { answer = Done; filter = keeping f fx fp }) (stepped f (where-sized t (holding f (estimateFrom (f .n) x p))))
+reset-done f x p h N ex ep = step-done f (estimateFrom (f .n) x p) h (ex ∙ kept-sized (f .n) x N) (flat-sized _ (shaped-true N N) ep)

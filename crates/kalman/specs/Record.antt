@@ -160,7 +160,7 @@ covarianceOf f = asMatrix (where-sized (wellSized (f .n) (f .m) (f .i)) (estimat
 
 -- the k numbers of x, and the k × k part of p
 abbrev pub resetOf : KalmanFilter → List Float → List (List Float) → ℕ → Stepped
-resetOf f x p k = stepped f (where-sized (fitting (f .n) (f .m) (f .i) (f .n) k) (holding f (record { state = cut (f .n) x; covariance = used (f .n) (f .n) p })))
+resetOf f x p k = stepped f (where-sized (fitting (f .n) (f .m) (f .i) (f .n) k) (holding f (estimateFrom (f .n) x p)))
 
 -- the tracker at its start
 abbrev pub trackerOf : Float → Float → Float → KalmanFilter

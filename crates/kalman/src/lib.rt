@@ -3,7 +3,7 @@
 ghost use mathlib.Core.Path.{_≡_};
 ghost use mathlib.Core.Bool.{true};
 ghost use mathlib.Core.List.{[], _∷_};
-ghost use Rattle.matrix.specs.Answer.{refused, answered, where-sized, if-sized};
+ghost use Rattle.matrix.specs.Answer.{refused, where-sized, if-sized};
 ghost use Rattle.matrix.specs.Matrix.{vecAdd, matvec};
 ghost use Rattle.matrix.specs.Array.{cut, used, usedFlat, padRow, pad};
 ghost use Rattle.matrix.specs.Kernel.{rowsOf};
@@ -286,6 +286,14 @@ fn found_any<'a>(
 
 // ---- two states, one input and one measurement, straight-line: every number is read where it stands
 
+// The matrix of the rows (c0, c1) and (d0, d1) as it stands in a record.
+fn flat_two(c0: f64, c1: f64, d0: f64, d1: f64) -> [f64; 16]
+    ensures { λ v. ⌜ v ≡ flat ((c0 ∷ c1 ∷ []) ∷ (d0 ∷ d1 ∷ []) ∷ []) ⌝ }
+{
+    let z = [0.0; 4];
+    kernel::to_flat(&[[c0, c1, 0.0, 0.0], [d0, d1, 0.0, 0.0], z, z])
+}
+
 // A x + B u
 fn state_two<'a>(a: &'a [f64; 16], b: &'a [f64; 16], x: &'a [f64; 4], u: &'a [f64; 4]) -> [f64; 4]
     ensures { λ v. ⌜ v ≡ padRow (vecAdd 2 (matvec 2 2 (usedFlat 2 2 (now (a .entry))) (cut 2 (now (x .entry)))) (matvec 2 1 (usedFlat 2 1 (now (b .entry))) (cut 1 (now (u .entry))))) ⌝ }
@@ -314,24 +322,7 @@ fn covariance_two<'a>(a: &'a [f64; 16], p: &'a [f64; 16], q: &'a [f64; 16]) -> [
     let c1 = (0.0 + s0 * b0 + s1 * b1) + q[1];
     let d0 = (0.0 + t0 * a0 + t1 * a1) + q[4];
     let d1 = (0.0 + t0 * b0 + t1 * b1) + q[5];
-    [
-        c0,
-        c1,
-        0.0,
-        0.0,
-        d0,
-        d1,
-        0.0,
-        0.0,
-        0.0,
-        0.0,
-        0.0,
-        0.0,
-        0.0,
-        0.0,
-        0.0,
-        0.0,
-    ]
+    flat_two(c0, c1, d0, d1)
 }
 
 // H P Hᵀ + R
@@ -368,24 +359,7 @@ fn corrected_two<'a>(h: &'a [f64; 16], p: &'a [f64; 16], x: &'a [f64; 4], z: f64
             cells: [y, 0.0, 0.0, 0.0],
         },
         x: [x[0] + (0.0 + k0 * y), x[1] + (0.0 + k1 * y), 0.0, 0.0],
-        p: [
-            c0,
-            c1,
-            0.0,
-            0.0,
-            d0,
-            d1,
-            0.0,
-            0.0,
-            0.0,
-            0.0,
-            0.0,
-            0.0,
-            0.0,
-            0.0,
-            0.0,
-            0.0,
-        ],
+        p: flat_two(c0, c1, d0, d1),
     }
 }
 
@@ -426,7 +400,8 @@ fn no_filter() -> KalmanFilter
     }
 }
 
-fn is_well_sized(n: usize, m: usize, i: usize) -> bool
+// All the sizes of a filter are 1 to 4.
+pub fn is_well_sized(n: usize, m: usize, i: usize) -> bool
     ensures { λ t. ⌜ t ≡ wellSized n m i ⌝ }
 {
     matrix::both(
@@ -513,26 +488,12 @@ impl KalmanFilter {
         let m = self.m;
         let i = self.i;
         let next = predicted(&self.a, &self.b, &self.q, &self.x, &self.p, &u, n, m, i, k);
-        let a = self.a;
-        let b = self.b;
-        let h = self.h;
-        let q = self.q;
-        let r = self.r;
         let x = next.x;
         let p = next.p;
-        let filter = KalmanFilter {
-            n,
-            m,
-            i,
-            a,
-            b,
-            h,
-            q,
-            r,
-            x,
-            p,
-        };
         let answer = next.answer;
+        let mut filter = self;
+        filter.x = x;
+        filter.p = p;
         Stepped { answer, filter }
     }
 
@@ -546,26 +507,12 @@ impl KalmanFilter {
         let m = self.m;
         let i = self.i;
         let next = measured(&self.h, &self.p, &self.r, &self.x, &z, n, m, i, k);
-        let a = self.a;
-        let b = self.b;
-        let h = self.h;
-        let q = self.q;
-        let r = self.r;
         let x = next.x;
         let p = next.p;
-        let filter = KalmanFilter {
-            n,
-            m,
-            i,
-            a,
-            b,
-            h,
-            q,
-            r,
-            x,
-            p,
-        };
         let answer = next.answer;
+        let mut filter = self;
+        filter.x = x;
+        filter.p = p;
         Updated { answer, filter }
     }
 

@@ -1,16 +1,14 @@
 -- `covariance_two` meets its contract: the definition at two states, written out.
-use mathlib.Core.Path.{refl}
 use Rattle.matrix.specs.Matrix.{sumFrom, mul, transpose, add}
-use Rattle.matrix.specs.Array.{usedFlat, pad}
-use Rattle.matrix.specs.Kernel.{flatOfRows}
+use Rattle.matrix.specs.Array.{usedFlat}
 use Rattle.kalman.specs.Kalman.{propagated}
 use borrow.Author.Needs.{needs}
 use Rattle.kalman.proofs.covariance_two.Statement.{statement}
 use Rattle.kalman.proofs.covariance_two.Tie as tie
 
 returns : tie.Need-returns
-unfolding sumFrom mul transpose add usedFlat pad flatOfRows propagated
-returns c = refl
+unfolding sumFrom mul transpose add usedFlat propagated
+returns c = c .flat-two .ensures
 
 pub covariance-two-spec : {M : Type 1} → statement M
 covariance-two-spec =
@@ -32,4 +30,5 @@ covariance-two-spec =
     (λ c. search needs)
     (λ c. search needs)
     (λ c. search needs)
+    (λ c κs. search needs)
     returns)

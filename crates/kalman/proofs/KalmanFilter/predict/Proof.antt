@@ -10,7 +10,7 @@ use Rattle.kalman.proofs.KalmanFilter.predict.Tie as tie
 returns : tie.Need-returns
 unfolding predict
 returns c =
-    let s = c .before .before .before .before .before .before .before in
+    let s = c .before .before in
     let a = s .before .before .before .before .before .before .before .before .args in
     let f = a .t1 in
     step-is f (fitting (f .n) (f .m) (f .i) (f .i) (a .k)) (predict (modelOf f) (estimateOf f) (cut (f .i) (a .t2))) (s .predicted .ensures)

@@ -11,7 +11,7 @@ use Rattle.kalman.proofs.KalmanFilter.update.Tie as tie
 returns : tie.Need-returns
 unfolding update correction
 returns c =
-    let s = c .before .before .before .before .before .before .before .before in
+    let s = c .before .before .before in
     let a = s .before .before .before .before .before .before .before .args in
     let f = a .t1 in
     told-is f (if-sized (fitting (f .n) (f .m) (f .i) (f .m) (a .k)) (update (modelOf f) (estimateOf f) (cut (f .m) (a .t2)))) (s .measured .ensures)
