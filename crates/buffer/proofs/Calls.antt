@@ -1,6 +1,6 @@
 -- What a caller has of a reading or a writing where the sizes are right and the numbers lie within the buffer. Assumes nothing.
 use mathlib.Core.Path.{_≡_, _∙_}
-use mathlib.Core.List.{List}
+use mathlib.Core.List.{List, _++_}
 use mathlib.Core.Bool.{true, _&&_, cond}
 use Prim.Native.Nat.{ℕ, _+_, _*_, _≤_}
 use lib.ListN.{length}
@@ -32,6 +32,9 @@ matrix-room k r c m e =
     let s = sizes-of r c (and-left _ _ e) in
     (s .rows .most, s .cols .least, s .cols .most, room-of k (r * c) m (and-right (shaped r c) _ e))
 
+pub pair-room : (k n m : ℕ) → sized n && room k (n + n * n) m ≡ true → (1 ≤ n) × (n ≤ 4) × (k + (n + n * n) ≤ m)
+pair-room k n m e = let s = size-of n (and-left _ _ e) in (s .least, s .most, room-of k (n + n * n) m (and-right (sized n) _ e))
+
 -- ---- the tests are passed
 vector-fits : (k m : ℕ) {n : ℕ} → Size n → k + n ≤ m → sized n && room k n m ≡ true
 vector-fits k m {n} s h = λ i. sized-true s i && room-true k n m h i
@@ -55,3 +58,7 @@ module _ (k : ℕ) (b : List Float) where
   pub matrix-put : {r c : ℕ} (m : List (List Float)) {b₁ : List Float} → Size r → Size c → k + r * c ≤ length b
       → b₁ ≡ cond (shaped r c && room k (r * c) (length b)) (placed k (joined (used r c m)) b) b → b₁ ≡ placed k (joined (used r c m)) b
   matrix-put m s t h p = p ∙ cond-true _ _ (matrix-fits k (length b) s t h)
+
+  pub pair-put : {n : ℕ} (x : List Float) (p : List (List Float)) {b₁ : List Float} → Size n → k + (n + n * n) ≤ length b
+      → b₁ ≡ cond (sized n && room k (n + n * n) (length b)) (placed k (cut n x ++ joined (used n n p)) b) b → b₁ ≡ placed k (cut n x ++ joined (used n n p)) b
+  pair-put {n} x p s h q = q ∙ cond-true _ _ (λ i. sized-true s i && room-true k (n + n * n) (length b) h i)

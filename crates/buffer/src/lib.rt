@@ -2,6 +2,7 @@
 // and the buffer's length: a reading gives all +0 where they are wrong, and a writing leaves the buffer as it was.
 ghost use mathlib.Core.Path.{_≡_};
 ghost use mathlib.Core.Bool.{_&&_, cond};
+ghost use mathlib.Core.List.{_++_};
 ghost use Prim.Native.Nat.{_+_, _*_, _≤_};
 ghost use lib.Dec.{leb};
 ghost use lib.ListN.{length, take};
@@ -31,6 +32,17 @@ fn is_matrix(k: usize, r: usize, c: usize, len: usize) -> bool
 {
     if matrix::is_shape(r, c) {
         is_room(k, r * c, len)
+    } else {
+        false
+    }
+}
+
+// The same for a state of n numbers, then its covariance.
+fn is_pair(k: usize, n: usize, len: usize) -> bool
+    ensures { λ t. ⌜ t ≡ sized n && room k (n + n * n) len ⌝ }
+{
+    if matrix::is_size(n) {
+        is_room(k, n + n * n, len)
     } else {
         false
     }
@@ -133,6 +145,16 @@ pub fn put_matrix(b: &mut [f64], k: usize, m: &[[f64; 4]; 4], r: usize, c: usize
 {
     if is_matrix(k, r, c, b.len()) {
         write_matrix(b, k, m, r, c);
+    }
+}
+
+// A state x of n numbers, then its covariance p, n rows of n numbers.
+pub fn put_pair(b: &mut [f64], k: usize, x: [f64; 4], p: &[[f64; 4]; 4], n: usize)
+    ensures { λ u. ⌜ now (b .exit) ≡ cond (sized n && room k (n + n * n) (length (now (b .entry)))) (placed k (cut n x ++ joined (used n n (now (p .entry)))) (now (b .entry))) (now (b .entry)) ⌝ }
+{
+    if is_pair(k, n, b.len()) {
+        write_vector(b, k, x, n);
+        write_matrix(b, k + n, p, n, n);
     }
 }
 

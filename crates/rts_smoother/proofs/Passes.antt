@@ -12,21 +12,21 @@ use Rattle.matrix.specs.declared.Status.the-variants.{Done, Refused}
 use Rattle.matrix.specs.Answer.{Answer, refused, answered, mapped}
 use Rattle.matrix.specs.Table.{table}
 use Rattle.matrix.specs.Matrix.{Vector, Matrix, at, mat}
-use Rattle.matrix.specs.Array.{cut, used, padRow, pad}
+use Rattle.matrix.specs.Array.{padRow, pad}
 use Rattle.matrix.proofs.Answers.{differ, same-answer}
 use Rattle.matrix.proofs.Tables.{length-table, getD-table}
 use Rattle.matrix.proofs.Vectors.{length-vecAdd}
 use Rattle.matrix.proofs.Kernels.{shape-add}
 use Rattle.kalman.specs.Kalman.{Estimate}
+use Rattle.kalman.specs.Record.{estimateFrom}
 use Rattle.kalman.proofs.Records.{done-not-refused}
 use Rattle.rts_smoother.specs.Backward.{Results, listed, in-front, back, pass}
 use Rattle.rts_smoother.specs.Smoother.{Slot, slotGain, movedState, movedCovariance, move, smoothed}
 use Rattle.buffer.specs.Buffer.{joined, placed}
 use Rattle.rts_smoother.specs.Buffer.{pairLength, stride, pairAt, slotFrom, slotAt, pairNumbers}
-use Rattle.rts_smoother.specs.Record.{estimate, statusOf, Stepped, Passed}
+use Rattle.rts_smoother.specs.Record.{statusOf, Stepped, Passed}
 use Rattle.rts_smoother.proofs.Backward.{back-step, back-stop, refused-from}
-use Rattle.buffer.proofs.Places.{ends-within}
-use Rattle.buffer.proofs.Places.{placed-none, placed-before}
+use Rattle.buffer.proofs.Places.{ends-within, placed-none, placed-before}
 use Rattle.rts_smoother.proofs.Records.{Paired, length-pair, slotted}
 use Rattle.rts_smoother.proofs.Steps.{cut-of, used-of}
 
@@ -39,7 +39,7 @@ paired-move n s G e = record { state = length-vecAdd n _ _; covariance = shape-a
 
 -- x and p hold the pair e
 pair-numbers : {n : ℕ} {e : Estimate} {x : List Float} {p : List (List Float)} → Paired n e → x ≡ padRow (e .state) → p ≡ pad (e .covariance)
-    → pairNumbers (estimate (cut n x) (used n n p)) ≡ pairNumbers e
+    → pairNumbers (estimateFrom n x p) ≡ pairNumbers e
 unfolding pairNumbers
 pair-numbers {e = e} h ex ep = ap₂ (λ (v : Vector) (A : Matrix). v ++ joined A) (cut-of (e .state) (h .state) ex) (used-of (h .covariance) ep)
 
@@ -100,7 +100,7 @@ module _ (n : ℕ) (F : Matrix) (b : List Float) (c : ℕ) where
     pub going-room : k * pairLength n + pairLength n ≤ length o
     going-room = omega (arith, t .fits, t .long, ends-within (pairLength n) (t .below))
 
-    pub put-front : {q : ℕ} {z : List Float} → q ≡ k * pairLength n → z ≡ placed q (pairNumbers (estimate (cut n x) (used n n p))) o
+    pub put-front : {q : ℕ} {z : List Float} → q ≡ k * pairLength n → z ≡ placed q (pairNumbers (estimateFrom n x p)) o
         → z ≡ placed (k * pairLength n) (joined (map pairNumbers (listed (t .results)))) o₀
     put-front {q} {z} eq ez =
         let e = t .results .first in
@@ -119,7 +119,7 @@ module _ (n : ℕ) (F : Matrix) (b : List Float) (c : ℕ) where
 
       -- its part of the pass is answered, or refused
       module _ {y : List Float} {q : List (List Float)} {u : Status} (e : Stepped n F s x p y q u) where
-        pub going-more : {z : List Float} → u ≡ Done → z ≡ placed (k * pairLength n) (pairNumbers (estimate (cut n x) (used n n p))) o → length z ≡ length o
+        pub going-more : {z : List Float} → u ≡ Done → z ≡ placed (k * pairLength n) (pairNumbers (estimateFrom n x p)) o → length z ≡ length o
             → Going o₀ j y q z
         unfolding move
         going-more d ez l =
@@ -152,7 +152,7 @@ module _ (n : ℕ) (F : Matrix) (b : List Float) (c : ℕ) where
             record { told = sym same ∙ ap statusOf (sym a); pairs = λ r h. absurd (differ (sym a ∙ h)) }
 
     -- slot k is the first, and its pair is put
-    pub going-done : {z : List Float} → k ≡ 0 → z ≡ placed 0 (pairNumbers (estimate (cut n x) (used n n p))) o → Passed (smoothed n F slotsOf) o₀ z Done
+    pub going-done : {z : List Float} → k ≡ 0 → z ≡ placed 0 (pairNumbers (estimateFrom n x p)) o → Passed (smoothed n F slotsOf) o₀ z Done
     unfolding smoothed pass
     going-done {z} ek ez =
         let first : 0 ≡ k * pairLength n = omega arith ∙ ap (λ (m : ℕ). m * pairLength n) (sym ek) in

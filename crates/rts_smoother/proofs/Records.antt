@@ -1,6 +1,6 @@
 -- Laws of the smoother's records: how long a pair's numbers are, what a slot's record holds, and the ways out of its methods. Assumes nothing.
 use mathlib.Core.Path.{_≡_, refl, sym, ap, ap₂, _∙_, subst, subst⁻¹}
-use mathlib.Core.Bool.{Bool, true, false, cond}
+use mathlib.Core.Bool.{Bool, true, false, _&&_, cond}
 use mathlib.Core.List.{List, _++_}
 use Prim.Native.Nat.{ℕ, _+_, _*_, _≤_, _<_}
 use native.Mathlib.Omega.{arith}
@@ -20,16 +20,17 @@ use Rattle.matrix.proofs.Arrays.{length-cut, shape-used, kept-sized}
 use Rattle.matrix.proofs.Results.{Size, as-answered, sized-true}
 use Rattle.matrix.proofs.Kernels.{used-rowsOfFlat}
 use Rattle.kalman.specs.Kalman.{Estimate}
+use Rattle.kalman.specs.Record.{estimateFrom}
 use Rattle.rts_smoother.specs.declared.FilteredState.{FilteredState}
 use Rattle.rts_smoother.specs.declared.StateResult.{StateResult}
 use Rattle.rts_smoother.specs.declared.RtsSmoother.{RtsSmoother}
 use Rattle.rts_smoother.specs.Smoother.{Slot}
-use Rattle.buffer.specs.Buffer.{placed}
+use Rattle.buffer.specs.Buffer.{joined, placed, room}
+use Rattle.buffer.proofs.Calls.{pair-put}
 use Rattle.rts_smoother.specs.Buffer.{pairAt, slotFrom, pairLength, stride, pairNumbers, slotNumbers, buffered}
 use Rattle.rts_smoother.specs.Record.{estimate, slotOf, stateResult, stateFrom, recordOf, slotOfRows, storedIn, storable, storeOf, getStateRefusal}
 use Rattle.rts_smoother.proofs.Sizes.{buffered-of, storable-of, buffer-small}
-use Rattle.buffer.proofs.Places.{ends-within}
-use Rattle.buffer.proofs.Places.{length-rows, then-placed}
+use Rattle.buffer.proofs.Places.{ends-within, length-rows, then-placed}
 
 -- ---- a pair of size n
 pub record Paired (n : ℕ) (e : Estimate) : Type 0 where
@@ -40,7 +41,7 @@ pub length-pair : {n : ℕ} {e : Estimate} → Paired n e → length (pairNumber
 unfolding pairNumbers
 length-pair {n} {e} p = length-append (e .state) _ ∙ ap₂ (λ (i j : ℕ). i + j) (p .state) (length-rows n n (e .covariance) (p .covariance))
 
-pub paired-used : (n : ℕ) (x : List Float) (p : List (List Float)) → Paired n (estimate (cut n x) (used n n p))
+pub paired-used : (n : ℕ) (x : List Float) (p : List (List Float)) → Paired n (estimateFrom n x p)
 paired-used n x p = record { state = length-cut n x; covariance = shape-used n n p }
 
 -- a slot of a buffer
@@ -56,11 +57,17 @@ pub slotted : (n : ℕ) (b : List Float) (k : ℕ) → Slotted n (slotFrom n b k
 unfolding slotFrom
 slotted n b k = record { filtered = paired-at n b k; predicted = paired-at n b (k + pairLength n) }
 
+-- what `put_pair` leaves where n is a size and there is room
+pub pair-placed : {n : ℕ} (k : ℕ) (b x : List Float) (p : List (List Float)) {b₁ : List Float} → Size n → k + pairLength n ≤ length b
+    → b₁ ≡ cond (sized n && room k (pairLength n) (length b)) (placed k (cut n x ++ joined (used n n p)) b) b → b₁ ≡ placed k (pairNumbers (estimateFrom n x p)) b
+unfolding pairNumbers
+pair-placed k b x p N h q = pair-put k b x p N h q
+
 -- the two pairs of a record, one after the other: p and q are its covariances as rows
 pub slot-placed : (s : FilteredState) (b : List Float) {k j : ℕ} {b₁ b₂ : List Float} {p q : List (List Float)} → s .n ≤ 4 → k ≤ length b → j ≡ k + pairLength (s .n)
     → p ≡ rowsOfFlat (s .p) → q ≡ rowsOfFlat (s .«p_pred»)
-    → b₁ ≡ placed k (pairNumbers (estimate (cut (s .n) (s .x)) (used (s .n) (s .n) p))) b
-    → b₂ ≡ placed j (pairNumbers (estimate (cut (s .n) (s .«x_pred»)) (used (s .n) (s .n) q))) b₁
+    → b₁ ≡ placed k (pairNumbers (estimateFrom (s .n) (s .x) p)) b
+    → b₂ ≡ placed j (pairNumbers (estimateFrom (s .n) (s .«x_pred») q)) b₁
     → b₂ ≡ placed k (slotNumbers (slotOf s)) b
 unfolding slotNumbers
 slot-placed s b {k} {j} {b₁} {b₂} {p} {q} h l e u v d₁ d₂ =

@@ -11,10 +11,11 @@ use Rattle.matrix.specs.declared.Status.the-variants.{Done, Refused}
 use Rattle.matrix.specs.declared.TestResult.{TestResult}
 use Rattle.matrix.specs.Answer.{Answer, refused, answered, mapped, refused-if, where-sized, if-sized}
 use Rattle.matrix.specs.Matrix.{Vector, Matrix}
-use Rattle.matrix.specs.Array.{cut, used, usedFlat, padRow, pad}
+use Rattle.matrix.specs.Array.{cut, used, padRow, pad}
 use Rattle.matrix.specs.Kernel.{flatOfRows}
 use Rattle.matrix.specs.Result.{sized, asTest}
 use Rattle.kalman.specs.Kalman.{Estimate}
+use Rattle.kalman.specs.Record.{estimateIn, estimateFrom}
 use Rattle.rts_smoother.specs.declared.FilteredState.{FilteredState}
 use Rattle.rts_smoother.specs.declared.StateResult.{StateResult}
 use Rattle.rts_smoother.specs.declared.RtsSmoother.{RtsSmoother}
@@ -32,12 +33,12 @@ estimate x P = record { state = x; covariance = P }
 -- the slot in a record, and in arrays of rows with the size n beside them
 abbrev pub slotOf : FilteredState → Slot
 slotOf s = record {
-  filtered = estimate (cut (s .n) (s .x)) (usedFlat (s .n) (s .n) (s .p));
-  predicted = estimate (cut (s .n) (s .«x_pred»)) (usedFlat (s .n) (s .n) (s .«p_pred»));
+  filtered = estimateIn (s .n) (s .x) (s .p);
+  predicted = estimateIn (s .n) (s .«x_pred») (s .«p_pred»);
 }
 
 abbrev pub slotOfRows : ℕ → List Float → List (List Float) → List Float → List (List Float) → Slot
-slotOfRows n x p y q = record { filtered = estimate (cut n x) (used n n p); predicted = estimate (cut n y) (used n n q) }
+slotOfRows n x p y q = record { filtered = estimateFrom n x p; predicted = estimateFrom n y q }
 
 -- the record of a slot; a matrix stands flat, +0 outside its sizes
 abbrev pub recordOf : ℕ → Slot → FilteredState

@@ -5,8 +5,8 @@ ghost use Prim.Native.Nat.{_+_, _*_, _≤_};
 ghost use lib.ListN.{length};
 ghost use Rattle.matrix.specs.Array.{cut, used, padRow, pad};
 ghost use Rattle.buffer.specs.Buffer.{placed, left};
-ghost use Rattle.rts_smoother.specs.Buffer.{stride, pairNumbers, slotNumbers, roomy, counted, buffered, pairLength, slotFrom, slotAt};
-ghost use Rattle.rts_smoother.specs.Record.{estimate, slotOf, storable, stateFrom, newOf, resetOf, lenOf, isEmptyOf, storeOf, getStateRefusal, getState, smoothable, smoothOf, smoothWith, stateMoved, covarianceMoved, Stepped, Passed};
+ghost use Rattle.rts_smoother.specs.Buffer.{stride, slotNumbers, roomy, counted, buffered, pairLength, slotFrom, slotAt};
+ghost use Rattle.rts_smoother.specs.Record.{slotOf, storable, stateFrom, newOf, resetOf, lenOf, isEmptyOf, storeOf, getStateRefusal, getState, smoothable, smoothOf, smoothWith, stateMoved, covarianceMoved, Stepped, Passed};
 ghost use mathlib.Core.Bool.{true};
 ghost use Rattle.matrix.specs.Table.{table};
 ghost use Rattle.matrix.specs.Result.{sized};
@@ -95,18 +95,7 @@ fn is_storable(len: usize, n: usize, room: usize, count: usize, size: usize) -> 
     matrix::both(is_buffered(len, n, room, count), n == size)
 }
 
-// ---- pairs and slots into a buffer, from number k on; every other number stays
-
-// A state, then its covariance.
-fn put_pair(b: &mut [f64], k: usize, x: [f64; 4], p: &[[f64; 4]; 4], n: usize)
-    requires { ⌜ (sized n ≡ true) × (k + (n + n * n) ≤ length (now b)) ⌝ }
-    ensures { λ r. ⌜ now (b .exit) ≡ placed k (pairNumbers (estimate (cut n x) (used n n (now (p .entry))))) (now (b .entry)) ⌝ }
-{
-    buffer::put_vector(b, k, x, n);
-    buffer::put_matrix(b, k + n, p, n, n);
-}
-
-// A slot: its filtered pair, then its predicted pair.
+// A slot into a buffer, from number k on: its filtered pair, then its predicted pair. Every other number stays.
 fn put_slot(b: &mut [f64], k: usize, s: FilteredState)
     requires { ⌜ (sized (s .n) ≡ true) × (k + stride (s .n) ≤ length (now b)) ⌝ }
     ensures { λ r. ⌜ now (b .exit) ≡ placed k (slotNumbers (slotOf s)) (now (b .entry)) ⌝ }
@@ -114,8 +103,8 @@ fn put_slot(b: &mut [f64], k: usize, s: FilteredState)
     let n = s.n;
     let p = kernel::from_flat(&s.p);
     let q = kernel::from_flat(&s.p_pred);
-    put_pair(b, k, s.x, &p, n);
-    put_pair(b, k + (n + n * n), s.x_pred, &q, n);
+    buffer::put_pair(b, k, s.x, &p, n);
+    buffer::put_pair(b, k + (n + n * n), s.x_pred, &q, n);
 }
 
 impl FilteredState {
@@ -476,7 +465,7 @@ fn step_two<'a>(
 
 // ---- a slot of any size, given by the number k at which it begins
 
-// The same as for 1 and 2, one kernel after another.
+// The same as for 1 and 2, for any size.
 fn step<'a>(
     slots: &'a [f64],
     k: usize,
@@ -532,7 +521,7 @@ fn back<'a>(
     let mut x = buffer::vector_at(slots, k * stride, n);
     let mut p = buffer::matrix_at(slots, k * stride + n, n, n);
     while 0 < k {
-        put_pair(out, k * pair, x, &p, n);
+        buffer::put_pair(out, k * pair, x, &p, n);
         k -= 1;
         let status = step(slots, k * stride, n, f, &mut x, &mut p);
         match status {
@@ -542,7 +531,7 @@ fn back<'a>(
             }
         }
     }
-    put_pair(out, 0, x, &p, n);
+    buffer::put_pair(out, 0, x, &p, n);
     Status::Done
 }
 

@@ -11,6 +11,7 @@ use Rattle.matrix.proofs.Results.{size-of}
 use Rattle.buffer.proofs.Calls.{vector-read, matrix-read}
 use Rattle.rts_smoother.specs.Buffer.{stride, slotFrom}
 use Rattle.rts_smoother.proofs.Sizes.{square-small, slot-room}
+use Rattle.rts_smoother.proofs.Records.{pair-placed}
 use Rattle.rts_smoother.proofs.Passes.{Going, going-start, going-room, going-more, going-stop, going-done}
 use Rattle.rts_smoother.proofs.back.Statement.{statement}
 use Rattle.rts_smoother.proofs.back.Tie as tie
@@ -38,9 +39,6 @@ loop-holds c =
     going-start _ _ _ _ (c .before .before .stride-of .ensures) (omega arith) (s .pre .4) (vector-read k (s .args .slots .now) N (omega (arith, last)) (c .before .vector-at .ensures))
     (matrix-read (k + s .args .n) (s .args .slots .now) N N (omega (arith, last)) (c .matrix-at .ensures))
 
-put-pair-requires : tie.Need-put-pair-requires Inv-loop μ-loop
-put-pair-requires c κs = (c .before .before .before .before .before .before .before .before .before .pre .0, going-room _ _ _ _ (c .before .before .before .loop .inv))
-
 -- the slot before slot k lies within the buffer
 loop-room : (c : tie.In-loop Inv-loop μ-loop)
     → let s = c .before .before .before .before .before .before .before in
@@ -61,7 +59,7 @@ loop-again c =
     let a = st .before .before .before .args in
     let j = t .before .loop .k - 1 in
     going-more _ _ _ _ (t .before .loop .inv) (omega (arith, t)) (ap (λ (m : ℕ). slotFrom (a .n) (a .slots .now) (j * m)) (st .stride-of .ensures)) (one .step .ensures)
-    (c .enum-told .given .1) (pair .put-pair .ensures) (pair .put-pair .kept .0)
+    (c .enum-told .given .1) (pair-placed _ _ _ _ (size-of _ (st .before .before .before .pre .0)) (going-room _ _ _ _ (t .before .loop .inv)) (pair .put-pair .ensures)) (pair .put-pair .kept .0)
 
 returns : tie.Need-returns Inv-loop μ-loop
 returns c =
@@ -73,13 +71,11 @@ returns c =
     going-stop _ _ _ _ (t .before .loop .inv) (omega (arith, t)) (ap (λ (m : ℕ). slotFrom (a .n) (a .slots .now) (j * m)) (st .stride-of .ensures)) (one .step .ensures)
     (c .before .status .given .1)
 
-put-pair-requires-2 : tie.Need-put-pair-requires-2 Inv-loop μ-loop
-put-pair-requires-2 c κs = (c .before .before .before .before .before .before .before .before .before .pre .0, omega (arith, going-room _ _ _ _ (c .before .before .before .loop .inv)))
-
 returns-2 : tie.Need-returns-2 Inv-loop μ-loop
 returns-2 c =
     let t = c .before .before .before .before .before in
-    going-done _ _ _ _ (t .before .loop .inv) (omega (arith, t)) (c .before .before .put-pair2 .ensures)
+    let s = t .before .before .before .before .before .before .before in
+    going-done _ _ _ _ (t .before .loop .inv) (omega (arith, t)) (pair-placed _ _ _ _ (size-of _ (s .pre .0)) (omega (arith, going-room _ _ _ _ (t .before .loop .inv))) (c .before .before .put-pair2 .ensures))
 
 pub back-spec : {M : Type 1} → statement M
 back-spec =
@@ -98,7 +94,7 @@ back-spec =
     (λ c κs. search needs)
     loop-holds
     (λ c. omega (arith, going-room _ _ _ _ (c .before .before .loop .inv)))
-    put-pair-requires
+    (λ c κs. search needs)
     (λ c. omega (arith, c .before .before .before .before .before))
     (λ c. omega (arith, loop-room (c .before .before .before .before .before)))
     step-requires
@@ -108,6 +104,6 @@ back-spec =
     (λ c. search needs)
     (λ c. c .before .before .before .before .before .before .before .before .put-pair .kept .0 ∙ c .before .before .before .before .before .before .before .before .before .before .before .before .loop .inv .long)
     returns
-    put-pair-requires-2
+    (λ c κs. search needs)
     (λ c. c .before .before .put-pair2 .kept .0 ∙ c .before .before .before .before .before .before .loop .inv .long)
     returns-2)

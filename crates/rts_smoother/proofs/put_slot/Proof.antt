@@ -1,8 +1,10 @@
 -- `put_slot` meets its contract: the predicted pair stands right after the filtered one.
+use Prim.Native.Nat.{_+_}
 use native.Mathlib.Omega.{arith}
 use borrow.Author.Needs.{needs}
 use Rattle.matrix.proofs.Results.{size-of}
-use Rattle.rts_smoother.proofs.Records.{slot-placed}
+use Rattle.rts_smoother.specs.Buffer.{pairLength}
+use Rattle.rts_smoother.proofs.Records.{pair-placed, slot-placed}
 use Rattle.rts_smoother.proofs.put_slot.Statement.{statement}
 use Rattle.rts_smoother.proofs.put_slot.Tie as tie
 
@@ -12,8 +14,11 @@ returns c =
     let q = one .before .before .before .before in
     let p = q .before .before .before in
     let s = p .before .before .before .before in
-    slot-placed (s .args .t3) (s .args .b .now) (size-of _ (s .pre .0) .most) (omega (arith, s .pre)) (omega arith) (p .from-flat .ensures) (q .from-flat2 .ensures) (one .put-pair .ensures)
-    (c .before .before .put-pair2 .ensures)
+    let a = s .args in
+    let N = size-of _ (s .pre .0) in
+    let first = pair-placed (a .k) (a .b .now) (a .t3 .x) (p .from-flat .result) N (omega (arith, s .pre)) (one .put-pair .ensures) in
+    slot-placed (a .t3) (a .b .now) (N .most) (omega (arith, s .pre)) (omega arith) (p .from-flat .ensures) (q .from-flat2 .ensures) first
+    (pair-placed (a .k + pairLength (a .t3 .n)) _ (a .t3 .«x_pred») (q .from-flat2 .result) N (omega (arith, s .pre, one .put-pair .kept .0)) (c .before .before .put-pair2 .ensures))
 
 pub put-slot-spec : {M : Type 1} → statement M
 put-slot-spec =
