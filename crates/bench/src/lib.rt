@@ -3,12 +3,11 @@
 ghost use mathlib.Core.Path.{_≡_};
 ghost use Rattle.matrix.specs.Answer.{where-sized, if-sized};
 ghost use Rattle.matrix.specs.Matrix.{mul};
-ghost use Rattle.matrix.specs.Array.{cut, used};
+ghost use Rattle.matrix.specs.Array.{used};
 ghost use Rattle.matrix.specs.Result.{sized, chained, asMatrix};
 ghost use Rattle.inverse.specs.Inverse.{inv};
 ghost use Rattle.cholesky.specs.Cholesky.{choleskyOf};
-ghost use Rattle.kalman.specs.Record.{modelFrom, newOf};
-ghost use Rattle.rts_smoother.specs.Record.{estimate};
+ghost use Rattle.kalman.specs.Record.{modelFrom, estimateFrom, newOf};
 ghost use Rattle.bench.specs.Steps.{stepsOf};
 use kalman::KalmanFilter;
 
@@ -79,7 +78,7 @@ pub extern "C" fn bench_steps(
     times: usize,
     out: &mut [f64; 4],
 )
-    ensures { λ w. ⌜ now (out .exit) ≡ stepsOf times (newOf (modelFrom n m i (now (a .entry)) (now (b .entry)) (now (h .entry)) (now (q .entry)) (now (r .entry))) (estimate (cut n (now (x .entry))) (used n n (now (p .entry)))) .filter) (now (u .entry)) i (now (z .entry)) m .x ⌝ }
+    ensures { λ w. ⌜ now (out .exit) ≡ stepsOf times (newOf (modelFrom n m i (now (a .entry)) (now (b .entry)) (now (h .entry)) (now (q .entry)) (now (r .entry))) (estimateFrom n (now (x .entry)) (now (p .entry))) .filter) (now (u .entry)) i (now (z .entry)) m .x ⌝ }
 {
     let s = KalmanFilter::new(n, m, i, *a, *b, *h, *q, *r, *x, *p);
     let f = s.filter;

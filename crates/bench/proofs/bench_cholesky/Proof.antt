@@ -1,12 +1,10 @@
 -- `bench_cholesky` meets its contract.
-use mathlib.Core.Path.{ap, _∙_}
 use borrow.Author.Needs.{needs}
-use Rattle.matrix.specs.declared.MatrixResult.{MatrixResult}
 use Rattle.bench.proofs.bench_cholesky.Statement.{statement}
 use Rattle.bench.proofs.bench_cholesky.Tie as tie
 
 returns : tie.Need-returns
-returns c = c .rows-of .ensures ∙ ap (λ (m : MatrixResult). m .rows) (c .before .cholesky .ensures)
+returns c = cc
 
 pub bench-cholesky-spec : {M : Type 1} → statement M
 bench-cholesky-spec = tie.close (tie.spec (λ c κs. search needs) (λ c κs. search needs) returns)

@@ -1,12 +1,10 @@
 -- `bench_inv` meets its contract.
-use mathlib.Core.Path.{ap, _∙_}
 use borrow.Author.Needs.{needs}
-use Rattle.matrix.specs.declared.MatrixResult.{MatrixResult}
 use Rattle.bench.proofs.bench_inv.Statement.{statement}
 use Rattle.bench.proofs.bench_inv.Tie as tie
 
 returns : tie.Need-returns
-returns c = c .rows-of .ensures ∙ ap (λ (m : MatrixResult). m .rows) (c .before .inv .ensures)
+returns c = cc
 
 pub bench-inv-spec : {M : Type 1} → statement M
 bench-inv-spec = tie.close (tie.spec (λ c κs. search needs) (λ c κs. search needs) returns)
