@@ -25,16 +25,16 @@ use Rattle.matrix.proofs.Kernels.{usedFlat-pad, used-rowsOfFlat}
 use Rattle.inverse.specs.Inverse.{inv}
 use Rattle.buffer.specs.Buffer.{matrixAt, joined, placed, room, left}
 use Rattle.buffer.proofs.Places.{then-placed, length-rows}
-use Rattle.buffer.proofs.Calls.{matrix-read, vector-put, matrix-put}
+use Rattle.buffer.proofs.Calls.{matrix-read, matrix-put}
 use Rattle.kalman.specs.declared.KalmanFilter.{KalmanFilter}
 use Rattle.kalman.specs.declared.Stepped.{Stepped}
 use Rattle.kalman.specs.declared.Updated.{Updated}
 use Rattle.kalman.specs.Kalman.{Model, Estimate, Correction, propagated, innovationOf, corrected, predict, correction, update}
-use Rattle.kalman.specs.Record.{modelOf, modelFrom, estimateOf, recordOf, noFilter, newOf, wellSized, fitting, holding, stepped, predictOf, resetOf, updateOf, told}
+use Rattle.kalman.specs.Record.{modelOf, modelFrom, estimateOf, estimateIn as estimateHeld, estimateFrom as estimateRows, recordOf, noFilter, newOf, wellSized, fitting, holding, stepped, predictOf, resetOf, updateOf, told}
 use Rattle.kalman.proofs.Records.{well-sized, shape-propagated, done-not-refused}
 use Rattle.rts_smoother.specs.Buffer.{pairNumbers}
 use Rattle.rts_smoother.specs.Record.{estimate}
-use Rattle.rts_smoother.proofs.Records.{Paired, paired-used, length-pair}
+use Rattle.rts_smoother.proofs.Records.{Paired, paired-used, length-pair, pair-placed}
 use Rattle.estimators.specs.Slices.{isRows, rows}
 use Rattle.estimators.specs.Filter.{estimateFrom, filterLength, isFilter, isStep, isParts, modelIn, estimateIn, modelOfRows, filterNumbers, updatedIn}
 use Rattle.estimators.proofs.Ways.{Whole, whole-of, two-of, three-of, placed-whole}
@@ -107,16 +107,11 @@ flat-read {r} {c} k b R C h p q =
     ap (usedFlat r c) (q ∙ ap flatOfRows (matrix-read k b R C h p)) ∙ usedFlat-pad r c (matrixAt r c b k) (shape-mat r c _) (R .most) (C .most)
 
 -- ---- an estimate written into a slice
-pub estimate-put : {n : ℕ} (k : ℕ) (b : List Float) (x fp : List Float) {p : List (List Float)} {b₁ b₂ : List Float} → Size n → k + (n + n * n) ≤ length b
-    → length b₁ ≡ length b → p ≡ rowsOfFlat fp
-    → b₁ ≡ cond (sized n && room k n (length b)) (placed k (cut n x) b) b
-    → b₂ ≡ cond (shaped n n && room (k + n) (n * n) (length b₁)) (placed (k + n) (joined (used n n p)) b₁) b₁
-    → b₂ ≡ placed k (pairNumbers (estimate (cut n x) (usedFlat n n fp))) b
-unfolding pairNumbers
-estimate-put {n} k b x fp {p} {b₁} {b₂} N h l u d₁ d₂ =
-    then-placed (cut n x) (joined (used n n p)) b (omega arith) (omega (arith, length-cut n x)) (vector-put k b x N (omega arith) d₁)
-    (matrix-put (k + n) b₁ p N N (omega (arith, l)) d₂)
-    ∙ ap (λ (P : Matrix). placed k (cut n x ++ joined P) b) (ap (used n n) u ∙ used-rowsOfFlat n n fp (N .most) (N .most))
+pub estimate-put : {n : ℕ} (k : ℕ) (b : List Float) (x fp : List Float) {p : List (List Float)} {b₁ : List Float} → Size n → k + (n + n * n) ≤ length b → p ≡ rowsOfFlat fp
+    → b₁ ≡ cond (sized n && room k (n + n * n) (length b)) (placed k (cut n x ++ joined (used n n p)) b) b
+    → b₁ ≡ placed k (pairNumbers (estimateHeld n x fp)) b
+estimate-put {n} k b x fp {p} N h u d =
+    pair-placed k b x p N h d ∙ ap (λ (P : Matrix). placed k (pairNumbers (estimate (cut n x) P)) b) (ap (used n n) u ∙ used-rowsOfFlat n n fp (N .most) (N .most))
 
 -- ---- a whole filter written into a slice
 pub flat-put : {r c : ℕ} (k : ℕ) (b : List Float) (cells : List Float) {m : List (List Float)} {b₁ : List Float} → Size r → Size c → k + r * c ≤ length b → m ≡ rowsOfFlat cells
@@ -128,7 +123,7 @@ pub length-flat : (r c : ℕ) (cells : List Float) → length (joined (usedFlat 
 unfolding usedFlat
 length-flat r c cells = length-rows r c (usedFlat r c cells) (shape-mat r c _)
 
-paired-flat : (n : ℕ) (x p : List Float) → Paired n (estimate (cut n x) (usedFlat n n p))
+paired-flat : (n : ℕ) (x p : List Float) → Paired n (estimateHeld n x p)
 unfolding usedFlat
 paired-flat n x p = record { state = length-cut n x; covariance = shape-mat n n _ }
 
@@ -223,7 +218,7 @@ module _ {n m i : ℕ} (a b h q r x p : List Float) (s : Stepped) (A B H Q R P :
     (N : Size n) (K : Size m) (I : Size i)
     (isA : used n n A ≡ rows n n a) (isB : used n i B ≡ rows n i b) (isH : used m n H ≡ rows m n h) (isQ : used n n Q ≡ rows n n q)
     (isR : used m m R ≡ rows m m r) (isX : cut n X ≡ x) (isP : used n n P ≡ rows n n p)
-    (e : s ≡ newOf (modelFrom n m i A B H Q R) (estimate (cut n X) (used n n P))) where
+    (e : s ≡ newOf (modelFrom n m i A B H Q R) (estimateRows n X P)) where
   pub made : s .filter ≡ recordOf (modelOfRows n m i a b h q r) (estimate x (rows n n p))
   unfolding wellSized
   made =
@@ -232,14 +227,19 @@ module _ {n m i : ℕ} (a b h q r x p : List Float) (s : Stepped) (A B H Q R P :
       ∙ (λ j. newOf (record { n = n; m = m; i = i; a = isA j; b = isB j; h = isH j; q = isQ j; r = isR j }) (estimate (isX j) (isP j)))
       ∙ (λ j. stepped noFilter (where-sized (sized-true N j && (sized-true K j && sized-true I j)) (recordOf (modelOfRows n m i a b h q r) (estimate x (rows n n p))))))
 
-  pub made-fits : (k : ℕ) → isFilter n m i k ≡ true → isFilter (s .filter .n) (s .filter .m) (s .filter .i) k ≡ true
-  made-fits k w = ap (λ (f : KalmanFilter). isFilter (f .n) (f .m) (f .i) k) made ∙ w
+-- g is the record of the slices
+module _ {n m i : ℕ} (a b h q r x p : List Float) {g : KalmanFilter} (made-of : g ≡ recordOf (modelOfRows n m i a b h q r) (estimate x (rows n n p))) where
+  pub made-fits : (k : ℕ) → isFilter n m i k ≡ true → isFilter (g .n) (g .m) (g .i) k ≡ true
+  made-fits k w = ap (λ (f : KalmanFilter). isFilter (f .n) (f .m) (f .i) k) made-of ∙ w
 
-  pub made-numbers : length x ≡ n → filterNumbers (modelOf (s .filter)) (estimateOf (s .filter)) ≡ filterNumbers (modelOfRows n m i a b h q r) (estimate x (rows n n p))
-  made-numbers long =
+  pub made-numbers : {k : ℕ} → Fit n m i k → length x ≡ n → filterNumbers (modelOf g) (estimateOf g) ≡ filterNumbers (modelOfRows n m i a b h q r) (estimate x (rows n n p))
+  made-numbers F long =
+      let N = F .states in
+      let K = F .measurements in
+      let I = F .inputs in
       let M = modelOfRows n m i a b h q r in
       let E = estimate x (rows n n p) in
-      ap (λ (f : KalmanFilter). filterNumbers (modelOf f) (estimateOf f)) made
+      ap (λ (f : KalmanFilter). filterNumbers (modelOf f) (estimateOf f)) made-of
       ∙ ap₂ filterNumbers
       (model-back M E N K I (record { a = shape-mat n n _; b = shape-mat n i _; h = shape-mat m n _; q = shape-mat n n _; r = shape-mat m m _ }))
       (estimate-back M E N K I (record { state = long; covariance = shape-mat n n _ }))
@@ -264,14 +264,14 @@ module _ {n m i : ℕ} (b : List Float) (f : KalmanFilter) (F : Fit n m i (lengt
   same-states = ap (λ (A : Model). A.n) M
 
   -- the record g that a step leaves holds its estimate
-  pub held : (e : Estimate) (g : KalmanFilter) → Paired n e → g ≡ holding f e → estimate (cut n (g .x)) (usedFlat n n (g .p)) ≡ e
+  pub held : (e : Estimate) (g : KalmanFilter) → Paired n e → g ≡ holding f e → estimateHeld n (g .x) (g .p) ≡ e
   held e g s q =
       let N = F .states in
-      ap (λ (h : KalmanFilter). estimate (cut n (h .x)) (usedFlat n n (h .p))) q
+      ap (λ (h : KalmanFilter). estimateHeld n (h .x) (h .p)) q
       ∙ ap₂ estimate (cut-padRow n (e .state) (s .state)) (usedFlat-pad n n (e .covariance) (s .covariance) (N .most) (N .most))
 
   pub left-by : (s : Stepped) (e : Estimate) {t : Bool} → Paired n e → t ≡ true → s ≡ stepped f (where-sized t (holding f e))
-      → estimate (cut n (s .filter .x)) (usedFlat n n (s .filter .p)) ≡ e
+      → estimateHeld n (s .filter .x) (s .filter .p) ≡ e
   left-by s e P h q =
       held e (s .filter) P (ap (λ (x : Stepped). x .filter) (q ∙ ap (λ (t : Bool). stepped f (where-sized t (holding f e))) h))
 
@@ -302,7 +302,7 @@ corrected-of M e z C p = go (inv M.m (propagated M.m M.n M.h (e .covariance) M.r
 
 pub predicted : {n m i : ℕ} (b : List Float) (f : KalmanFilter) → Fit n m i (length b) → modelOf f ≡ modelIn n m i b → estimateOf f ≡ estimateIn n m i b
     → (s : Stepped) (v : List Float) {u : List Float} → cut i v ≡ u → s ≡ predictOf f v i
-    → estimate (cut n (s .filter .x)) (usedFlat n n (s .filter .p)) ≡ predict (modelIn n m i b) (estimateIn n m i b) u
+    → estimateHeld n (s .filter .x) (s .filter .p) ≡ predict (modelIn n m i b) (estimateIn n m i b) u
 predicted {n} {m} {i} b f F M E s v U q =
     let e = predict (modelOf f) (estimateOf f) (cut (f .i) v) in
     let inputs : f .i ≡ i = ap (λ (A : Model). A.i) M in
@@ -313,19 +313,19 @@ predicted {n} {m} {i} b f F M E s v U q =
 
 pub restarted : {n m i : ℕ} (b : List Float) (f : KalmanFilter) → Fit n m i (length b) → modelOf f ≡ modelIn n m i b
     → (s : Stepped) (v : List Float) (p : List (List Float)) {x : Vector} {P : Matrix} → cut n v ≡ x → used n n p ≡ P → s ≡ resetOf f v p n
-    → estimate (cut n (s .filter .x)) (usedFlat n n (s .filter .p)) ≡ estimate x P
+    → estimateHeld n (s .filter .x) (s .filter .p) ≡ estimate x P
 restarted {n} {m} {i} b f F M s v p X P q =
-    let e = estimate (cut (f .n) v) (used (f .n) (f .n) p) in
+    let e = estimateRows (f .n) v p in
     let states : f .n ≡ n = ap (λ (A : Model). A.n) M in
     left-by b f F M s e (subst (λ (k : ℕ). Paired k e) states (paired-used (f .n) v p)) (numbers-right b f F M (λ A. A.n)) q
-    ∙ ap (λ (k : ℕ). estimate (cut k v) (used k k p)) states
+    ∙ ap (λ (k : ℕ). estimateRows k v p) states
     ∙ ap₂ estimate X P
 
 -- ---- an update of the record f: o is its answer
 module _ {n m i : ℕ} (b : List Float) (f : KalmanFilter) (F : Fit n m i (length b)) (M : modelOf f ≡ modelIn n m i b) where
   pub update-out : (o : Answer Correction) (s : Updated) (y : List Float) {b₁ y₁ : List Float}
       → ((C : Correction) → o ≡ answered C → Corrected (modelIn n m i b) C) → s ≡ told f o → s .answer .status ≡ Done
-      → b₁ ≡ placed (estimateFrom n m i) (pairNumbers (estimate (cut n (s .filter .x)) (usedFlat n n (s .filter .p)))) b → y₁ ≡ cut m (s .answer .cells)
+      → b₁ ≡ placed (estimateFrom n m i) (pairNumbers (estimateHeld n (s .filter .x) (s .filter .p))) b → y₁ ≡ cut m (s .answer .cells)
       → left {R = ℕ} 0 (b₁, y₁) ≡ updatedIn n m i b y o
   update-out (refused k) s y c p d g h = absurd (done-not-refused (sym d ∙ ap (λ (x : Updated). x .answer .status) p))
   update-out (answered C) s y c p d g h =

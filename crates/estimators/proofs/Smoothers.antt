@@ -3,7 +3,7 @@ use mathlib.Core.Path.{_≡_, refl, sym, ap, ap₂, _∙_}
 use mathlib.Core.List.{List, _++_}
 use mathlib.Core.Bool.{Bool, true, false, not, _&&_, cond}
 use Prim.Native.Nat.{ℕ, zero, suc, _+_, _*_, _≤_}
-use native.Mathlib.Nat.{suc-mul}
+use native.Mathlib.Nat.{suc-mul, mul-le-mul-right}
 use native.Mathlib.Omega.{arith}
 use lib.Dec.{leb, ltb, eqb}
 use lib.ListN.{length, take, drop, length-drop}
@@ -14,7 +14,7 @@ use Rattle.scalar.proofs.Choice.{and-left, and-right, cond-true}
 use Rattle.matrix.specs.declared.Status.{Status}
 use Rattle.matrix.specs.Answer.{Answer, refused, answered, mapped, where-sized, if-sized, refused-if}
 use Rattle.matrix.specs.Matrix.{Matrix, at}
-use Rattle.matrix.specs.Array.{cut, used, usedFlat, padRow, pad}
+use Rattle.matrix.specs.Array.{cut, used, padRow, pad}
 use Rattle.matrix.specs.Kernel.{rowsOf, cellsOf, flatOfRows}
 use Rattle.matrix.specs.Result.{sized, shaped}
 use Rattle.matrix.proofs.Tables.{length-table, table-ext}
@@ -23,6 +23,7 @@ use Rattle.matrix.proofs.Arrays.{length-cut, shape-used, used-pad, cut-padRow}
 use Rattle.matrix.proofs.Results.{Size, size-of, sized-true}
 use Rattle.matrix.proofs.Kernels.{usedFlat-pad}
 use Rattle.kalman.specs.Kalman.{Estimate}
+use Rattle.kalman.specs.Record.{estimateIn, estimateFrom}
 use Rattle.buffer.specs.Buffer.{vectorAt, matrixAt, joined, placed, room, Left, left}
 use Rattle.buffer.proofs.Calls.{vector-read, matrix-read}
 use Rattle.rts_smoother.specs.declared.FilteredState.{FilteredState}
@@ -33,28 +34,28 @@ use Rattle.rts_smoother.specs.Record.{estimate, slotOf, slotOfRows, recordOf, s
 use Rattle.rts_smoother.proofs.Records.{handed}
 use Rattle.rts_smoother.proofs.Sizes.{square-small}
 use Rattle.estimators.specs.Slices.{written}
-use Rattle.estimators.specs.Smoother.{numberOf, isLong, isPair, isSlot, storeIn, slotIn}
+use Rattle.estimators.specs.Smoother.{numberOf, isPairs, storeIn, slotIn}
 use Rattle.estimators.proofs.Ways.{part-numbers}
 
--- ---- what a test that was passed says: a size n, and m numbers where k are asked for
-pub record Asked (n m k : ℕ) : Type 0 where
+-- ---- what a test that was passed says: a size n, and m numbers that are just k pairs
+pub record Pairs (n k m : ℕ) : Type 0 where
   pub size : Size n
-  pub long : m ≡ k
+  pub long : m ≡ k * pairLength n
 
-asked-of : (n k m : ℕ) → isLong n k m ≡ true → Asked n m k
-unfolding isLong
-asked-of n k m e = record { size = size-of n (and-left _ _ e); long = eqb-true m k (and-right (sized n) _ e) }
+pairs-of : (n k m : ℕ) → isPairs n k m ≡ true → Pairs n k m
+unfolding isPairs
+pairs-of n k m e = record { size = size-of n (and-left _ _ e); long = eqb-true m (k * pairLength n) (and-right (sized n) _ e) }
 
 -- ---- the test itself, where t is what the test of the size answers
 module _ (n : ℕ) {t : Bool} (e : t ≡ sized n) where
-  -- a pair is small, so no length that is asked for wraps
-  pub pair-few : t ≡ true → pairLength n ≤ 20
-  pair-few p = let s = size-of n (sym e ∙ p) in omega (arith, s, square-small (s .most))
+  -- two pairs are few numbers, so no length that is asked for wraps
+  pub pairs-few : {k : ℕ} → k ≤ 2 → t ≡ true → (pairLength n ≤ 20) × (k * pairLength n ≤ 40)
+  pairs-few {k} h p = let s = size-of n (sym e ∙ p) in let few = square-small (s .most) in (omega (arith, s, few), omega (arith, s, few, mul-le-mul-right (pairLength n) h))
 
   -- u is what t was found to be, true or false
-  pub long-tested : (k m : ℕ) {u : Bool} → t ≡ u → u && eqb m k ≡ isLong n k m
-  unfolding isLong
-  long-tested k m p = ap (λ (u : Bool). u && eqb m k) (sym p ∙ e)
+  pub pairs-tested : (k m : ℕ) {u : Bool} → t ≡ u → u && eqb m (k * pairLength n) ≡ isPairs n k m
+  unfolding isPairs
+  pairs-tested k m p = ap (λ (u : Bool). u && eqb m (k * pairLength n)) (sym p ∙ e)
 
 -- ---- the numbers that are read are those of the slice
 rows-numbers : (r c k : ℕ) (b : List Float) → k + r * c ≤ length b → joined (matrixAt r c b k) ≡ take (r * c) (drop k b)
@@ -72,9 +73,9 @@ rows-numbers (suc r) c k b h =
     ∙ sym (take-add c (r * c) (drop k b))
     ∙ ap (λ (m : ℕ). take m (drop k b)) whole
 
-pair-read : {n : ℕ} (b : List Float) {x : List Float} {p : List (List Float)} → Asked n (length b) (pairLength n)
+pair-read : {n : ℕ} (b : List Float) {x : List Float} {p : List (List Float)} → Pairs n 1 (length b)
     → x ≡ cellsOf (where-sized (sized n && room 0 n (length b)) (vectorAt n b 0))
-    → p ≡ rowsOf (where-sized (shaped n n && room n (n * n) (length b)) (matrixAt n n b n)) → pairNumbers (estimate (cut n x) (used n n p)) ≡ b
+    → p ≡ rowsOf (where-sized (shaped n n && room n (n * n) (length b)) (matrixAt n n b n)) → pairNumbers (estimateFrom n x p) ≡ b
 unfolding pairNumbers
 pair-read {n} b a u v =
     let N = a .size in
@@ -87,10 +88,10 @@ pair-read {n} b a u v =
 
 -- ---- the record of two pairs
 padded : (n : ℕ) (x : List Float) (p : List (List Float)) → n ≤ 4
-    → estimate (cut n (padRow (cut n x))) (usedFlat n n (flatOfRows (pad (used n n p)))) ≡ estimate (cut n x) (used n n p)
+    → estimateIn n (padRow (cut n x)) (flatOfRows (pad (used n n p))) ≡ estimateFrom n x p
 padded n x p h = ap₂ estimate (cut-padRow n (cut n x) (length-cut n x)) (usedFlat-pad n n (used n n p) (shape-used n n p) h h)
 
-pub slot-read : {n : ℕ} (f g : List Float) (x y : List Float) (p q : List (List Float)) (s : StateResult) → isPair n (length f) && isPair n (length g) ≡ true
+pub slot-read : {n : ℕ} (f g : List Float) (x y : List Float) (p q : List (List Float)) (s : StateResult) → isPairs n 1 (length f) && isPairs n 1 (length g) ≡ true
     → x ≡ cellsOf (where-sized (sized n && room 0 n (length f)) (vectorAt n f 0))
     → p ≡ rowsOf (where-sized (shaped n n && room n (n * n) (length f)) (matrixAt n n f n))
     → y ≡ cellsOf (where-sized (sized n && room 0 n (length g)) (vectorAt n g 0))
@@ -98,8 +99,8 @@ pub slot-read : {n : ℕ} (f g : List Float) (x y : List Float) (p q : List (Lis
     → s ≡ stateFrom n x p y q → (s .state .n ≡ n) × (slotNumbers (slotOf (s .state)) ≡ f ++ g)
 unfolding slotNumbers
 slot-read {n} f g x y p q s e ux up uy uq d =
-    let F = asked-of n _ (length f) (and-left _ _ e) in
-    let G = asked-of n _ (length g) (and-right (isPair n (length f)) _ e) in
+    let F = pairs-of n 1 (length f) (and-left _ _ e) in
+    let G = pairs-of n 1 (length g) (and-right (isPairs n 1 (length f)) _ e) in
     let S = recordOf n (slotOfRows n x p y q) in
     let is : s .state ≡ S = ap (λ (r : StateResult). r .state) (d ∙ ap (λ (t : Bool). stateResult (where-sized t S)) (sized-true (F .size))) in (
       ap (λ (r : FilteredState). r .n) is,
@@ -139,7 +140,7 @@ module _ (n T c : ℕ) (b : List Float) where
   right-size {k} e = ap (λ (t : Bool). buffered (length b) n T c && t) (eq-eqb n k (sym e)) ∙ both-true (buffered (length b) n T c)
 
   -- i is the number that is told
-  pub store-told : (f g : List Float) (s : FilteredState) (r : Stored) {i : ℕ} {l : List Float} → isPair n (length f) && isPair n (length g) ≡ true
+  pub store-told : (f g : List Float) (s : FilteredState) (r : Stored) {i : ℕ} {l : List Float} → isPairs n 1 (length f) && isPairs n 1 (length g) ≡ true
       → (s .n ≡ n) × (slotNumbers (slotOf s) ≡ f ++ g) → i ≡ numberOf (r .answer) → left r l ≡ storeOf (smoother n T c) b s
       → left {C = ℕ × List Float} i (r .smoother .count, l) ≡ written before (storeIn n T c b f g)
   store-told f g s r {i} {l} e d q p =
@@ -153,7 +154,7 @@ module _ (n T c : ℕ) (b : List Float) where
       ∙ ap (written before) (with-count t u z)
       ∙ ap (λ (v : Bool). written before (if-sized (v && t) (refused-if u 5 (one-more z)))) (sym e)
 
-  pub store-unsized : (f g : List Float) → isPair n (length f) && isPair n (length g) ≡ false → left {R = ℕ} 1 before ≡ written before (storeIn n T c b f g)
+  pub store-unsized : (f g : List Float) → isPairs n 1 (length f) && isPairs n 1 (length g) ≡ false → left {R = ℕ} 1 before ≡ written before (storeIn n T c b f g)
   store-unsized f g e =
       ap (λ (v : Bool). written before (if-sized (v && buffered (length b) n T c) (refused-if (leb T c) 5 (one-more (placed (c * stride n) (f ++ g) b))))) (sym e)
 
@@ -172,7 +173,7 @@ told-by true true a o = refl
 told-by true false a o = refl
 told-by false u a o = refl
 
-module _ (n T c : ℕ) (b : List Float) (k : ℕ) (o : List Float) (e : isSlot n (length o) ≡ true) where
+module _ (n T c : ℕ) (b : List Float) (k : ℕ) (o : List Float) (e : isPairs n 2 (length o) ≡ true) where
   abbrev asked : ℕ
   asked = getStateRefusal (smoother n T c) b k
 
@@ -194,10 +195,10 @@ module _ (n T c : ℕ) (b : List Float) (k : ℕ) (o : List Float) (e : isSlot n
       let H = handed (smoother n T c) b k z refl in
       let long = length-take-le (stride n) (drop (k * stride n) b) (omega (arith, H .ends, length-drop (k * stride n) b)) in
       let is : g ≡ slot = p ∙ cond-true _ _ zero-asked in
-      let same : length o ≡ length g = asked-of n _ (length o) e .long ∙ sym (ap length is ∙ long) in
+      let same : length o ≡ length g = omega (arith, pairs-of n 2 (length o) e .long, ap length is, long) in
       q ∙ cond-true _ _ (le-leb (length o) (length g) (omega (arith, same))) ∙ take-all (length o) g (omega (arith, same)) ∙ is ∙ sym (cond-true _ _ zero-asked)
 
-pub slot-unsized : (n T c : ℕ) (b : List Float) (k : ℕ) (o : List Float) → isSlot n (length o) ≡ false → left {R = ℕ} 1 o ≡ written o (slotIn n T c b k (length o))
+pub slot-unsized : (n T c : ℕ) (b : List Float) (k : ℕ) (o : List Float) → isPairs n 2 (length o) ≡ false → left {R = ℕ} 1 o ≡ written o (slotIn n T c b k (length o))
 slot-unsized n T c b k o e =
     ap (λ (v : Bool). written o (if-sized (v && buffered (length b) n T c) (refused-if (leb c k) 6 (take (stride n) (drop (k * stride n) b))))) (sym e)
 

@@ -20,26 +20,19 @@ abbrev pub numberOf : Status → ℕ
 numberOf Done = 0
 numberOf (Refused k) = k
 
--- n is a size, and m numbers are just the k that are asked for
-unfoldable pub isLong : ℕ → ℕ → ℕ → Bool
-isLong n k m = sized n && eqb m k
-
--- a slice of m numbers is just a pair, and just a slot
-abbrev pub isPair : ℕ → ℕ → Bool
-isPair n m = isLong n (pairLength n) m
-
-abbrev pub isSlot : ℕ → ℕ → Bool
-isSlot n m = isLong n (stride n) m
+-- n is a size, and a slice of m numbers is just k pairs; a slot is two
+unfoldable pub isPairs : ℕ → ℕ → ℕ → Bool
+isPairs n k m = sized n && eqb m (k * pairLength n)
 
 -- the count and the slots b with the pairs f and p as one slot more: refused with 1 for the sizes, with 5 where c is T
 abbrev pub storeIn : ℕ → ℕ → ℕ → List Float → List Float → List Float → Answer (ℕ × List Float)
 storeIn n T c b f p =
-    if-sized ((isPair n (length f) && isPair n (length p)) && buffered (length b) n T c)
+    if-sized ((isPairs n 1 (length f) && isPairs n 1 (length p)) && buffered (length b) n T c)
     (refused-if (leb T c) 5 (c + 1, placed (c * stride n) (f ++ p) b))
 
 -- slot k of b, for a slice of m numbers: refused with 1 for the sizes, with 6 where k is not below c
 abbrev pub slotIn : ℕ → ℕ → ℕ → List Float → ℕ → ℕ → Answer (List Float)
-slotIn n T c b k m = if-sized (isSlot n m && buffered (length b) n T c) (refused-if (leb c k) 6 (take (stride n) (drop (k * stride n) b)))
+slotIn n T c b k m = if-sized (isPairs n 2 m && buffered (length b) n T c) (refused-if (leb c k) 6 (take (stride n) (drop (k * stride n) b)))
 
 -- the output that smoothing the first c slots of b with the transition F leaves in one of m numbers: refused with 1 for the sizes, and else as smoothing is
 abbrev pub smoothIn : ℕ → ℕ → ℕ → List Float → Matrix → ℕ → Answer (List Float)

@@ -6,10 +6,10 @@ ghost use Prim.Native.Nat.{_+_, _*_, _≤_};
 ghost use lib.Dec.{eqb};
 ghost use lib.ListN.{length};
 ghost use Rattle.matrix.specs.Answer.{where-sized, if-sized};
-ghost use Rattle.matrix.specs.Array.{cut, usedFlat};
+ghost use Rattle.matrix.specs.Array.{usedFlat};
 ghost use Rattle.matrix.specs.Result.{sized};
 ghost use Rattle.kalman.specs.Kalman.{predict, update, tracker, atStart};
-ghost use Rattle.kalman.specs.Record.{modelOf, estimateOf};
+ghost use Rattle.kalman.specs.Record.{modelOf, estimateOf, estimateIn as estimateHeld, recordOf};
 ghost use Rattle.buffer.specs.Buffer.{matrixAt, joined, placed, left};
 ghost use Rattle.rts_smoother.specs.Buffer.{pairNumbers};
 ghost use Rattle.rts_smoother.specs.Record.{estimate};
@@ -39,10 +39,7 @@ fn estimate_from(n: usize, m: usize, i: usize) -> usize
 fn is_filter(n: usize, m: usize, i: usize, len: usize) -> bool
     ensures { λ t. ⌜ t ≡ isFilter n m i len ⌝ }
 {
-    if both(
-        matrix::is_size(n),
-        both(matrix::is_size(m), matrix::is_size(i)),
-    ) {
+    if kalman::is_well_sized(n, m, i) {
         len == estimate_from(n, m, i) + (n + n * n)
     } else {
         false
@@ -91,12 +88,11 @@ fn filter_in(f: &[f64], n: usize, m: usize, i: usize) -> KalmanFilter
 // The record's state and covariance from number k on; the model stays as it stands.
 fn put_estimate(f: &mut [f64], k: usize, n: usize, g: KalmanFilter)
     requires { ⌜ (sized n ≡ true) × (k + (n + n * n) ≤ length (now f)) ⌝ }
-    ensures { λ u. ⌜ now (f .exit) ≡ placed k (pairNumbers (estimate (cut n (g .x)) (usedFlat n n (g .p)))) (now (f .entry)) ⌝ }
+    ensures { λ u. ⌜ now (f .exit) ≡ placed k (pairNumbers (estimateHeld n (g .x) (g .p))) (now (f .entry)) ⌝ }
 {
     let x = g.x;
     let p = kernel::from_flat(&g.p);
-    buffer::put_vector(f, k, x, n);
-    buffer::put_matrix(f, k + n, &p, n, n);
+    buffer::put_pair(f, k, x, &p, n);
 }
 
 // ---- the steps
@@ -264,6 +260,37 @@ fn is_parts(
     )
 }
 
+// The filter's record of the slices of its parts.
+fn filter_of(
+    n: usize,
+    m: usize,
+    i: usize,
+    a: &[f64],
+    b: &[f64],
+    h: &[f64],
+    q: &[f64],
+    r: &[f64],
+    x0: &[f64],
+    p0: &[f64],
+) -> KalmanFilter
+    requires { ⌜ isParts n m i (length (now a)) (length (now b)) (length (now h)) (length (now q)) (length (now r)) (length (now x0)) (length (now p0)) ≡ true ⌝ }
+    ensures { λ g. ⌜ g ≡ recordOf (modelOfRows n m i (now (a .entry)) (now (b .entry)) (now (h .entry)) (now (q .entry)) (now (r .entry))) (estimate (now (x0 .entry)) (rows n n (now (p0 .entry)))) ⌝ }
+{
+    let s = KalmanFilter::new(
+        n,
+        m,
+        i,
+        buffer::matrix_at(a, 0, n, n),
+        buffer::matrix_at(b, 0, n, i),
+        buffer::matrix_at(h, 0, m, n),
+        buffer::matrix_at(q, 0, n, n),
+        buffer::matrix_at(r, 0, m, m),
+        buffer::vector_at(x0, 0, n),
+        buffer::matrix_at(p0, 0, n, n),
+    );
+    s.filter
+}
+
 // The filter of a model and an estimate.
 #[no_mangle]
 pub extern "C" fn kalman_new(
@@ -296,19 +323,7 @@ pub extern "C" fn kalman_new(
             p0.len(),
         ),
     ) {
-        let s = KalmanFilter::new(
-            n,
-            m,
-            i,
-            buffer::matrix_at(a, 0, n, n),
-            buffer::matrix_at(b, 0, n, i),
-            buffer::matrix_at(h, 0, m, n),
-            buffer::matrix_at(q, 0, n, n),
-            buffer::matrix_at(r, 0, m, m),
-            buffer::vector_at(x0, 0, n),
-            buffer::matrix_at(p0, 0, n, n),
-        );
-        let g = s.filter;
+        let g = filter_of(n, m, i, a, b, h, q, r, x0, p0);
         put_filter(filter, g);
         0
     } else {

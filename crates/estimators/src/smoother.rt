@@ -3,38 +3,27 @@
 ghost use mathlib.Core.Path.{_≡_};
 ghost use mathlib.Core.Bool.{true, _&&_};
 ghost use mathlib.Core.List.{_++_};
+ghost use Prim.Native.Nat.{_≤_};
 ghost use lib.ListN.{length};
 ghost use Rattle.matrix.specs.Answer.{if-sized};
 ghost use Rattle.buffer.specs.Buffer.{left};
 ghost use Rattle.rts_smoother.specs.Buffer.{slotNumbers};
 ghost use Rattle.rts_smoother.specs.Record.{slotOf};
 ghost use Rattle.estimators.specs.Slices.{isRows, rows, written};
-ghost use Rattle.estimators.specs.Smoother.{numberOf, isPair, isSlot, storeIn, slotIn, smoothIn};
+ghost use Rattle.estimators.specs.Smoother.{numberOf, isPairs, storeIn, slotIn, smoothIn};
 use crate::is_rows;
 use matrix::Status;
 use matrix::both;
 use rts_smoother::FilteredState;
 use rts_smoother::RtsSmoother;
 
-// ---- lengths, tested by one bool
-
-// A slice of len numbers is just a pair.
-fn is_pair(n: usize, len: usize) -> bool
-    ensures { λ t. ⌜ t ≡ isPair n len ⌝ }
+// A slice of len numbers is just k pairs.
+fn is_pairs(n: usize, k: usize, len: usize) -> bool
+    requires { ⌜ k ≤ 2 ⌝ }
+    ensures { λ t. ⌜ t ≡ isPairs n k len ⌝ }
 {
     if matrix::is_size(n) {
-        len == n + n * n
-    } else {
-        false
-    }
-}
-
-// The same for a slot.
-fn is_slot(n: usize, len: usize) -> bool
-    ensures { λ t. ⌜ t ≡ isSlot n len ⌝ }
-{
-    if matrix::is_size(n) {
-        len == 2 * n + 2 * (n * n)
+        len == k * (n + n * n)
     } else {
         false
     }
@@ -54,7 +43,7 @@ fn number_of(s: Status) -> u8
 
 // The slot of two pairs.
 fn slot_in(n: usize, filtered: &[f64], predicted: &[f64]) -> FilteredState
-    requires { ⌜ isPair n (length (now filtered)) && isPair n (length (now predicted)) ≡ true ⌝ }
+    requires { ⌜ isPairs n 1 (length (now filtered)) && isPairs n 1 (length (now predicted)) ≡ true ⌝ }
     ensures { λ s. ⌜ (s .n ≡ n) × (slotNumbers (slotOf s) ≡ now (filtered .entry) ++ now (predicted .entry)) ⌝ }
 {
     let x = buffer::vector_at(filtered, 0, n);
@@ -79,7 +68,10 @@ pub extern "C" fn rts_smoother_store_forward(
 ) -> u8
     ensures { λ t. ⌜ left t (now (count .exit), now (slots .exit)) ≡ written (now (count .entry), now (slots .entry)) (storeIn n room (now (count .entry)) (now (slots .entry)) (now (filtered .entry)) (now (predicted .entry))) ⌝ }
 {
-    if both(is_pair(n, filtered.len()), is_pair(n, predicted.len())) {
+    if both(
+        is_pairs(n, 1, filtered.len()),
+        is_pairs(n, 1, predicted.len()),
+    ) {
         let m = RtsSmoother {
             n,
             room,
@@ -107,7 +99,7 @@ pub extern "C" fn rts_smoother_get_state(
 ) -> u8
     ensures { λ t. ⌜ left t (now (out .exit)) ≡ written (now (out .entry)) (slotIn n room count (now (slots .entry)) k (length (now (out .entry)))) ⌝ }
 {
-    if is_slot(n, out.len()) {
+    if is_pairs(n, 2, out.len()) {
         let m = RtsSmoother { n, room, count };
         let refusal = m.get_state_refusal(slots, k);
         if refusal == 0 {

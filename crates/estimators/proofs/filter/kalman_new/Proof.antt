@@ -9,7 +9,7 @@ use Rattle.scalar.proofs.Choice.{and-left, and-right}
 use Rattle.buffer.specs.Buffer.{left}
 use Rattle.estimators.specs.Slices.{written}
 use Rattle.estimators.specs.Filter.{isFilter, isParts}
-use Rattle.estimators.proofs.Ways.{rows-read, numbers-read, answers, refuses-where}
+use Rattle.estimators.proofs.Ways.{answers, refuses-where}
 use Rattle.estimators.proofs.Filters.{fit-of, parts-of, made-fits, made-numbers}
 use Rattle.estimators.proofs.filter.kalman_new.Statement.{statement}
 use Rattle.estimators.proofs.filter.kalman_new.Tie as tie
@@ -21,45 +21,24 @@ tested c = c .both .ensures ∙ ap₂ (λ (x y : Bool). x && y) (c .before .befo
 passed : (c : tie.Then1) → let a = c .before .before .before .before .before .before .before .before .before .before .before .before .args in isFilter (a .n) (a .m) (a .i) (length (a .filter .now)) && isParts (a .n) (a .m) (a .i) (length (a .a .now)) (length (a .b .now)) (length (a .h .now)) (length (a .q .now)) (length (a .r .now)) (length (a .x0 .now)) (length (a .p0 .now)) ≡ true
 passed c = sym (tested (c .before)) ∙ c .if1 .taken
 
+filter-of-requires : tie.Need-filter-of-requires
+filter-of-requires c κs = let a = c .before .before .before .before .before .before .before .before .before .before .before .before .args in and-right (isFilter (a .n) (a .m) (a .i) (length (a .filter .now))) _ (passed c)
+
 put-filter-requires : tie.Need-put-filter-requires
 put-filter-requires c κs =
-    let t = c .before .before .before .before .before .before .before .before .before .before in
+    let t = c .before .before in
     let a = t .before .before .before .before .before .before .before .before .before .before .before .before .args in
-    let w = parts-of _ _ _ _ _ _ _ _ _ _ (and-right (isFilter (a .n) (a .m) (a .i) (length (a .filter .now))) _ (passed t)) in
-    let F = fit-of _ _ _ _ (and-left _ _ (passed t)) in
-    made-fits (a .a .now) (a .b .now) (a .h .now) (a .q .now) (a .r .now) (a .x0 .now) (a .p0 .now) (c .before .before .new .result)
-    (c .before .before .before .before .before .before .before .before .before .matrix-at .result) (c .before .before .before .before .before .before .before .before .matrix-at2 .result) (c .before .before .before .before .before .before .before .matrix-at3 .result) (c .before .before .before .before .before .before .matrix-at4 .result) (c .before .before .before .before .before .matrix-at5 .result) (c .before .before .before .matrix-at6 .result) (c .before .before .before .before .vector-at .result)
-    (F .states) (F .measurements) (F .inputs)
-    (rows-read (a .a .now) (w .transition) (c .before .before .before .before .before .before .before .before .before .matrix-at .ensures))
-    (rows-read (a .b .now) (w .input) (c .before .before .before .before .before .before .before .before .matrix-at2 .ensures))
-    (rows-read (a .h .now) (w .measuring) (c .before .before .before .before .before .before .before .matrix-at3 .ensures))
-    (rows-read (a .q .now) (w .process) (c .before .before .before .before .before .before .matrix-at4 .ensures))
-    (rows-read (a .r .now) (w .noise) (c .before .before .before .before .before .matrix-at5 .ensures))
-    (numbers-read (a .x0 .now) (w .state) (c .before .before .before .before .vector-at .ensures))
-    (rows-read (a .p0 .now) (w .covariance) (c .before .before .before .matrix-at6 .ensures))
-    (c .before .before .new .ensures)
-    (length (a .filter .now)) (and-left _ _ (passed t))
+    made-fits (a .a .now) (a .b .now) (a .h .now) (a .q .now) (a .r .now) (a .x0 .now) (a .p0 .now) (c .before .filter-of .ensures) (length (a .filter .now)) (and-left _ _ (passed t))
 
 returns : tie.Need-returns
 returns c =
-    let t = c .before .before .before .before .before .before .before .before .before .before .before .before .before in
+    let t = c .before .before .before .before .before in
     let a = t .before .before .before .before .before .before .before .before .before .before .before .before .args in
     let w = parts-of _ _ _ _ _ _ _ _ _ _ (and-right (isFilter (a .n) (a .m) (a .i) (length (a .filter .now))) _ (passed t)) in
-    let F = fit-of _ _ _ _ (and-left _ _ (passed t)) in
     answers (written (a .filter .now)) _ (passed t)
     (ap (left {R = ℕ} 0)
     (c .before .before .put-filter .ensures
-    ∙ made-numbers (a .a .now) (a .b .now) (a .h .now) (a .q .now) (a .r .now) (a .x0 .now) (a .p0 .now) (c .before .before .before .before .before .new .result)
-    (c .before .before .before .before .before .before .before .before .before .before .before .before .matrix-at .result) (c .before .before .before .before .before .before .before .before .before .before .before .matrix-at2 .result) (c .before .before .before .before .before .before .before .before .before .before .matrix-at3 .result) (c .before .before .before .before .before .before .before .before .before .matrix-at4 .result) (c .before .before .before .before .before .before .before .before .matrix-at5 .result) (c .before .before .before .before .before .before .matrix-at6 .result) (c .before .before .before .before .before .before .before .vector-at .result)
-    (F .states) (F .measurements) (F .inputs)
-    (rows-read (a .a .now) (w .transition) (c .before .before .before .before .before .before .before .before .before .before .before .before .matrix-at .ensures))
-    (rows-read (a .b .now) (w .input) (c .before .before .before .before .before .before .before .before .before .before .before .matrix-at2 .ensures))
-    (rows-read (a .h .now) (w .measuring) (c .before .before .before .before .before .before .before .before .before .before .matrix-at3 .ensures))
-    (rows-read (a .q .now) (w .process) (c .before .before .before .before .before .before .before .before .before .matrix-at4 .ensures))
-    (rows-read (a .r .now) (w .noise) (c .before .before .before .before .before .before .before .before .matrix-at5 .ensures))
-    (numbers-read (a .x0 .now) (w .state) (c .before .before .before .before .before .before .before .vector-at .ensures))
-    (rows-read (a .p0 .now) (w .covariance) (c .before .before .before .before .before .before .matrix-at6 .ensures))
-    (c .before .before .before .before .before .new .ensures)
+    ∙ made-numbers (a .a .now) (a .b .now) (a .h .now) (a .q .now) (a .r .now) (a .x0 .now) (a .p0 .now) (c .before .before .before .before .filter-of .ensures) (fit-of _ _ _ _ (and-left _ _ (passed t)))
     (omega (arith, w .state .long))))
 
 returns-2 : tie.Need-returns-2
@@ -72,14 +51,7 @@ kalman-new-spec =
     (λ c κs. search needs)
     (λ c κs. search needs)
     (λ c κs. search needs)
-    (λ c κs. search needs)
-    (λ c κs. search needs)
-    (λ c κs. search needs)
-    (λ c κs. search needs)
-    (λ c κs. search needs)
-    (λ c κs. search needs)
-    (λ c κs. search needs)
-    (λ c κs. search needs)
+    filter-of-requires
     put-filter-requires
     (λ c. search needs)
     returns

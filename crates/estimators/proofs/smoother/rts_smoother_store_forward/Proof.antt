@@ -1,19 +1,20 @@
 -- `rts_smoother_store_forward` meets its contract.
 use mathlib.Core.Path.{_≡_, sym, ap₂, _∙_}
 use mathlib.Core.Bool.{Bool, true, _&&_}
+use native.Mathlib.Omega.{arith}
 use lib.ListN.{length}
 use borrow.Author.Needs.{needs}
-use Rattle.estimators.specs.Smoother.{isPair}
+use Rattle.estimators.specs.Smoother.{isPairs}
 use Rattle.estimators.proofs.Smoothers.{store-told, store-unsized}
 use Rattle.estimators.proofs.smoother.rts_smoother_store_forward.Statement.{statement}
 use Rattle.estimators.proofs.smoother.rts_smoother_store_forward.Tie as tie
 
 tested : (c : tie.After-both) → let a = c .before .before .before .before .before .before .args in
-    c .both .result ≡ isPair (a .n) (length (a .filtered .now)) && isPair (a .n) (length (a .predicted .now))
-tested c = c .both .ensures ∙ ap₂ (λ (x y : Bool). x && y) (c .before .before .is-pair .ensures) (c .before .is-pair2 .ensures)
+    c .both .result ≡ isPairs (a .n) 1 (length (a .filtered .now)) && isPairs (a .n) 1 (length (a .predicted .now))
+tested c = c .both .ensures ∙ ap₂ (λ (x y : Bool). x && y) (c .before .before .is-pairs .ensures) (c .before .is-pairs2 .ensures)
 
 passed : (c : tie.Then1) → let a = c .before .before .before .before .before .before .before .args in
-    isPair (a .n) (length (a .filtered .now)) && isPair (a .n) (length (a .predicted .now)) ≡ true
+    isPairs (a .n) 1 (length (a .filtered .now)) && isPairs (a .n) 1 (length (a .predicted .now)) ≡ true
 passed c = sym (tested (c .before)) ∙ c .if1 .taken
 
 slot-in-requires : tie.Need-slot-in-requires
@@ -36,8 +37,8 @@ pub rts-smoother-store-forward-spec : {M : Type 1} → statement M
 rts-smoother-store-forward-spec =
     tie.close
     (tie.spec
-    (λ c κs. search needs)
-    (λ c κs. search needs)
+    (λ c κs. omega arith)
+    (λ c κs. omega arith)
     (λ c κs. search needs)
     slot-in-requires
     (λ c κs. search needs)
