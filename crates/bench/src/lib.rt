@@ -7,7 +7,8 @@ ghost use Rattle.matrix.specs.Array.{used};
 ghost use Rattle.matrix.specs.Result.{sized, chained, asMatrix};
 ghost use Rattle.inverse.specs.Inverse.{inv};
 ghost use Rattle.cholesky.specs.Cholesky.{choleskyOf};
-ghost use Rattle.kalman.specs.Record.{modelFrom, estimateFrom, newOf};
+ghost use Rattle.kalman_step.specs.Step.{estimateFrom};
+ghost use Rattle.kalman.specs.Record.{modelFrom, newOf};
 ghost use Rattle.bench.specs.Steps.{stepsOf};
 use kalman::KalmanFilter;
 

@@ -6,7 +6,7 @@ use Rattle.scalar.specs.Number as Number
 use Rattle.matrix.specs.Matrix as Matrix
 use Rattle.inverse.specs.Inverse as Inverse
 use Rattle.cholesky.specs.Cholesky as Cholesky
-use Rattle.kalman.specs.Kalman as Kalman
+use Rattle.kalman_step.specs.Kalman as Kalman
 use Rattle.rts_smoother.specs.Backward as Backward
 use Rattle.rts_smoother.specs.Smoother as Smoother
 

@@ -20,7 +20,7 @@ use Rattle.matrix.proofs.Answers.{differ, same-answer}
 use Rattle.matrix.proofs.Matrices.{Shape, shape-mat, shape-mul}
 use Rattle.matrix.proofs.Vectors.{length-vecAdd, length-vecSub}
 use Rattle.matrix.proofs.Arrays.{length-cut, cut-padRow}
-use Rattle.matrix.proofs.Results.{Size, size-of, sized-true}
+use Rattle.matrix.proofs.Results.{Size, size-of, sized-true, done-not-refused}
 use Rattle.matrix.proofs.Kernels.{usedFlat-pad, used-rowsOfFlat}
 use Rattle.inverse.specs.Inverse.{inv}
 use Rattle.buffer.specs.Buffer.{matrixAt, joined, placed, room, left}
@@ -29,9 +29,10 @@ use Rattle.buffer.proofs.Calls.{matrix-read, matrix-put}
 use Rattle.kalman.specs.declared.KalmanFilter.{KalmanFilter}
 use Rattle.kalman.specs.declared.Stepped.{Stepped}
 use Rattle.kalman.specs.declared.Updated.{Updated}
-use Rattle.kalman.specs.Kalman.{Model, Estimate, Correction, propagated, innovationOf, corrected, predict, correction, update}
-use Rattle.kalman.specs.Record.{modelOf, modelFrom, estimateOf, estimateIn as estimateHeld, estimateFrom as estimateRows, recordOf, noFilter, newOf, wellSized, fitting, holding, stepped, predictOf, resetOf, updateOf, told}
-use Rattle.kalman.proofs.Records.{well-sized, shape-propagated, done-not-refused}
+use Rattle.kalman_step.specs.Kalman.{Model, Estimate, Correction, propagated, innovationOf, corrected, predict, correction, update}
+use Rattle.kalman_step.specs.Step.{estimateIn as estimateHeld, estimateFrom as estimateRows, wellSized, fitting}
+use Rattle.kalman_step.proofs.Steps.{well-sized, shape-propagated}
+use Rattle.kalman.specs.Record.{modelOf, modelFrom, estimateOf, recordOf, noFilter, newOf, holding, stepped, predictOf, resetOf, updateOf, told}
 use Rattle.rts_smoother.specs.Buffer.{pairNumbers}
 use Rattle.rts_smoother.specs.Record.{estimate}
 use Rattle.rts_smoother.proofs.Records.{Paired, paired-used, length-pair, pair-placed}

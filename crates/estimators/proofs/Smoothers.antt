@@ -22,8 +22,8 @@ use Rattle.matrix.proofs.Matrices.{shape-mat, mat-ext}
 use Rattle.matrix.proofs.Arrays.{length-cut, shape-used, used-pad, cut-padRow}
 use Rattle.matrix.proofs.Results.{Size, size-of, sized-true}
 use Rattle.matrix.proofs.Kernels.{usedFlat-pad}
-use Rattle.kalman.specs.Kalman.{Estimate}
-use Rattle.kalman.specs.Record.{estimateIn, estimateFrom}
+use Rattle.kalman_step.specs.Kalman.{Estimate}
+use Rattle.kalman_step.specs.Step.{estimateIn, estimateFrom}
 use Rattle.buffer.specs.Buffer.{vectorAt, matrixAt, joined, placed, room, Left, left}
 use Rattle.buffer.proofs.Calls.{vector-read, matrix-read}
 use Rattle.rts_smoother.specs.declared.FilteredState.{FilteredState}

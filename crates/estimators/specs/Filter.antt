@@ -7,8 +7,8 @@ use lib.Ieee.{Float}
 use Rattle.matrix.specs.Answer.{Answer, mapped}
 use Rattle.matrix.specs.Matrix.{Vector}
 use Rattle.buffer.specs.Buffer.{matrixAt, joined, placed, Left}
-use Rattle.kalman.specs.Kalman.{Model, Estimate, Correction}
-use Rattle.kalman.specs.Record.{wellSized}
+use Rattle.kalman_step.specs.Kalman.{Model, Estimate, Correction}
+use Rattle.kalman_step.specs.Step.{wellSized}
 use Rattle.rts_smoother.specs.Buffer.{pairLength, pairAt, pairNumbers}
 use Rattle.estimators.specs.Slices.{isRows, isVector, rows, written}
 

@@ -8,8 +8,9 @@ ghost use lib.ListN.{length};
 ghost use Rattle.matrix.specs.Answer.{where-sized, if-sized};
 ghost use Rattle.matrix.specs.Array.{usedFlat};
 ghost use Rattle.matrix.specs.Result.{sized};
-ghost use Rattle.kalman.specs.Kalman.{predict, update, tracker, atStart};
-ghost use Rattle.kalman.specs.Record.{modelOf, estimateOf, estimateIn as estimateHeld, recordOf};
+ghost use Rattle.kalman_step.specs.Kalman.{predict, update, tracker, atStart};
+ghost use Rattle.kalman_step.specs.Step.{estimateIn as estimateHeld};
+ghost use Rattle.kalman.specs.Record.{modelOf, estimateOf, recordOf};
 ghost use Rattle.buffer.specs.Buffer.{matrixAt, joined, placed, left};
 ghost use Rattle.rts_smoother.specs.Buffer.{pairNumbers};
 ghost use Rattle.rts_smoother.specs.Record.{estimate};
@@ -39,7 +40,7 @@ fn estimate_from(n: usize, m: usize, i: usize) -> usize
 fn is_filter(n: usize, m: usize, i: usize, len: usize) -> bool
     ensures { λ t. ⌜ t ≡ isFilter n m i len ⌝ }
 {
-    if kalman::is_well_sized(n, m, i) {
+    if kalman_step::is_well_sized(n, m, i) {
         len == estimate_from(n, m, i) + (n + n * n)
     } else {
         false

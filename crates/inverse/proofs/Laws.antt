@@ -1,15 +1,22 @@
 -- Laws of the inverse, for its callers: it reads the n × n part alone, it has that shape, and it is refused with 3 alone. Assumes nothing.
-use mathlib.Core.Path.{_≡_, refl, ap, _∙_}
-use mathlib.Core.Bool.{cond}
+use mathlib.Core.Path.{_≡_, refl, sym, ap, _∙_}
+use mathlib.Core.Bool.{Bool, cond}
+use mathlib.Core.List.{List}
 use Prim.Native.Nat.{ℕ, zero, suc, _-_, _<_}
 use native.Mathlib.Omega.{arith}
 use lib.Dec.{eqb}
+use lib.Ieee.{Float}
 use Rattle.scalar.specs.Number.{abs}
-use Rattle.matrix.specs.Answer.{Answer, refused, answered, and-then, mapped, refused-if}
+use Rattle.matrix.specs.declared.Status.{Status}
+use Rattle.matrix.specs.declared.Status.the-variants.{Done, Refused}
+use Rattle.matrix.specs.declared.MatrixResult.{MatrixResult}
+use Rattle.matrix.specs.Answer.{Answer, refused, answered, and-then, mapped, refused-if, if-sized}
 use Rattle.matrix.specs.Matrix.{Matrix, cell, identity}
-use Rattle.matrix.specs.Array.{used}
+use Rattle.matrix.specs.Array.{used, pad}
+use Rattle.matrix.specs.Result.{asMatrix, sized}
 use Rattle.matrix.proofs.Matrices.{Shape, shape-mat, shape-identity, mat-ext}
-use Rattle.matrix.proofs.Arrays.{cell-used}
+use Rattle.matrix.proofs.Arrays.{cell-used, used-pad}
+use Rattle.matrix.proofs.Results.{Size, sized-true, done-not-refused}
 use Rattle.matrix.proofs.Answers.{Told, result, number-of, result-of, told-if, told-then, told-mapped}
 use Rattle.inverse.specs.Inverse.{noPivot, pivotRow, swapped, reduced, Augmented, _∣_, exchanged, cleared, column, columns, inv}
 use Rattle.inverse.proofs.Pivots.{pivot-within, pivot-ext}
@@ -68,3 +75,27 @@ inv-refused n A k e = number-of (told-inv n A) e
 
 pub inv-shape : (n : ℕ) (A B : Matrix) → inv n A ≡ answered B → Shape n n B
 inv-shape n A B e = result-of (told-inv n A) e
+
+-- ---- what a result says of it: v and w are as the code has them
+pub inverted-is : {m : ℕ} {S : Matrix} {s : List (List Float)} {v : MatrixResult} → Size m → Shape m m S → s ≡ pad S → v ≡ asMatrix (if-sized (sized m) (inv m (used m m s))) → v ≡ asMatrix (inv m S)
+inverted-is {m} {S} {s} M shape e q =
+    q ∙ ap (λ (b : Bool). asMatrix (if-sized b (inv m (used m m s)))) (sized-true M) ∙ ap (λ (A : Matrix). asMatrix (inv m A)) (ap (used m m) e ∙ used-pad m m S shape)
+
+module _ (n : ℕ) (A : Matrix) (w : MatrixResult) (e : w ≡ asMatrix (inv n A)) where
+  case-of : (a : Answer Matrix) → inv n A ≡ a → w .status ≡ asMatrix a .status
+  case-of a p = ap (λ (x : MatrixResult). x .status) e ∙ ap (λ (b : Answer Matrix). asMatrix b .status) p
+
+  pub was-answered : w .status ≡ Done → inv n A ≡ answered (used n n (w .rows))
+  was-answered h = go (inv n A) refl
+    where
+      go : (a : Answer Matrix) → inv n A ≡ a → inv n A ≡ answered (used n n (w .rows))
+      go (refused k) p = absurd (done-not-refused (sym h ∙ case-of (refused k) p))
+      go (answered B) p =
+          p ∙ ap answered (sym (ap (λ (x : MatrixResult). used n n (x .rows)) e ∙ ap (λ (b : Answer Matrix). used n n (asMatrix b .rows)) p ∙ used-pad n n B (inv-shape n A B p)))
+
+  pub was-refused : {k : ℕ} → w .status ≡ Refused k → inv n A ≡ refused k
+  was-refused {k} h = go (inv n A) refl
+    where
+      go : (a : Answer Matrix) → inv n A ≡ a → inv n A ≡ refused k
+      go (refused j) p = let z : _≡_ {A = Status} (Refused j) (Refused k) = sym (case-of (refused j) p) ∙ h in p ∙ ap refused cc
+      go (answered B) p = absurd (done-not-refused (sym (case-of (answered B) p) ∙ h))

@@ -12,28 +12,18 @@ use Rattle.scalar.proofs.Choice.{and-right}
 use Rattle.matrix.specs.declared.Status.{Status}
 use Rattle.matrix.specs.declared.Status.the-variants.{Done, Refused}
 use Rattle.matrix.specs.declared.ScalarResult.the-variants as Scalar
-use Rattle.matrix.specs.Answer.{Answer, refused, answered, mapped, if-sized}
-use Rattle.matrix.specs.Matrix.{Vector, Matrix, at, matvec}
+use Rattle.matrix.specs.Answer.{Answer, refused, answered, if-sized}
+use Rattle.matrix.specs.Matrix.{Vector, at}
 use Rattle.matrix.specs.Array.{cut}
-use Rattle.matrix.proofs.Answers.{same-answer, differ}
 use Rattle.matrix.proofs.Tables.{getD-padTo}
-use Rattle.matrix.proofs.Vectors.{length-vecSub}
-use Rattle.inverse.specs.Inverse.{inv}
+use Rattle.matrix.proofs.Results.{done-not-refused}
 use Rattle.kalman.specs.declared.KalmanFilter.{KalmanFilter}
 use Rattle.kalman.specs.declared.Updated.{Updated}
 use Rattle.kalman.specs.declared.UpdatedOne.{UpdatedOne}
-use Rattle.kalman.specs.Kalman.{Model, Estimate, Correction, propagated, innovationOf, correction, update}
-use Rattle.kalman.specs.Record.{modelOf, estimateOf, told, toldOne, wellSized, fitting, updateOf, updateOneOf}
-use Rattle.kalman.proofs.Records.{done-not-refused}
-
--- the innovation has m components
-length-innovation : (M : Model) (e : Estimate) (z : Vector) (o : Correction) → update M e z ≡ answered o → length (o .innovation) ≡ M .m
-unfolding update correction innovationOf
-length-innovation M e z o q = go (inv (M .m) (propagated (M .m) (M .n) (M .h) (e .covariance) (M .r))) q
-  where
-    go : (a : Answer Matrix) → mapped (correction M e z) a ≡ answered o → length (o .innovation) ≡ M .m
-    go (refused k) p = absurd (differ p)
-    go (answered W) p = ap (λ (c : Correction). length (c .innovation)) (sym (same-answer p)) ∙ length-vecSub (M .m) z (matvec (M .m) (M .n) (M .h) (e .state))
+use Rattle.kalman_step.specs.Kalman.{Correction, update}
+use Rattle.kalman_step.specs.Step.{wellSized, fitting}
+use Rattle.kalman_step.proofs.Steps.{length-innovation}
+use Rattle.kalman.specs.Record.{modelOf, estimateOf, told, toldOne, updateOf, updateOneOf}
 
 one-number : (m : ℕ) (z : Float) → m ≡ 1 → cut m (z ∷ +0 ∷ +0 ∷ +0 ∷ []) ≡ z ∷ []
 unfolding cut

@@ -1,31 +1,22 @@
 -- The filter record of the code: which model and estimate it holds, and what each method makes of it. Definitions only.
 use Prim.Native.Nat.{ℕ}
 use mathlib.Core.List.{List, [], _∷_}
-use mathlib.Core.Bool.{Bool, _&&_}
-use lib.Dec.{eqb}
 use lib.Ieee.{Float}
 use Rattle.matrix.specs.declared.MatrixResult.{MatrixResult}
 use Rattle.matrix.specs.declared.VectorResult.{VectorResult}
 use Rattle.matrix.specs.declared.Status.the-variants.{Done, Refused}
 use Rattle.matrix.specs.Answer.{Answer, refused, answered, where-sized, if-sized}
-use Rattle.matrix.specs.Matrix.{Matrix, at}
-use Rattle.matrix.specs.Array.{cut, used, usedFlat, padRow, pad}
-use Rattle.matrix.specs.Kernel.{flatOfRows}
-use Rattle.matrix.specs.Result.{asMatrix, asVector, asScalar, sized}
+use Rattle.matrix.specs.Matrix.{at}
+use Rattle.matrix.specs.Array.{cut, used, usedFlat, padRow}
+use Rattle.matrix.specs.Result.{asMatrix, asVector, asScalar}
+use Rattle.kalman_step.specs.Kalman.{Model, Estimate, Correction, predict, update, tracker, atStart}
+use Rattle.kalman_step.specs.Step.{flat, estimateIn, estimateFrom, wellSized, fitting}
 use Rattle.kalman.specs.declared.KalmanFilter.{KalmanFilter}
 use Rattle.kalman.specs.declared.Stepped.{Stepped}
 use Rattle.kalman.specs.declared.Updated.{Updated}
 use Rattle.kalman.specs.declared.UpdatedOne.{UpdatedOne}
-use Rattle.kalman.specs.declared.Moved.{Moved}
-use Rattle.kalman.specs.declared.Found.{Found}
-use Rattle.kalman.specs.Kalman.{Model, Estimate, Correction, predict, update, tracker, atStart}
 
 -- ---- what a record holds
-
--- a matrix in a record: its rows of four stand flat, +0 outside its sizes
-abbrev pub flat : Matrix → List Float
-flat A = flatOfRows (pad A)
-
 abbrev pub modelOf : KalmanFilter → Model
 modelOf f = record {
   n = f .n;
@@ -42,16 +33,8 @@ modelOf f = record {
 abbrev pub modelFrom : ℕ → ℕ → ℕ → List (List Float) → List (List Float) → List (List Float) → List (List Float) → List (List Float) → Model
 modelFrom n m i a b h q r = record { n = n; m = m; i = i; a = used n n a; b = used n i b; h = used m n h; q = used n n q; r = used m m r }
 
--- the estimate of n states in a record's numbers x and p
-abbrev pub estimateIn : ℕ → List Float → List Float → Estimate
-estimateIn n x p = record { state = cut n x; covariance = usedFlat n n p }
-
 abbrev pub estimateOf : KalmanFilter → Estimate
 estimateOf f = estimateIn (f .n) (f .x) (f .p)
-
--- the same in arrays of rows
-abbrev pub estimateFrom : ℕ → List Float → List (List Float) → Estimate
-estimateFrom n x p = record { state = cut n x; covariance = used n n p }
 
 -- the record of a model and an estimate
 abbrev pub recordOf : Model → Estimate → KalmanFilter
@@ -87,16 +70,6 @@ keeping f x p = record {
 abbrev pub holding : KalmanFilter → Estimate → KalmanFilter
 holding f e = keeping f (padRow (e .state)) (flat (e .covariance))
 
--- all its sizes are 1 to 4
-unfoldable pub wellSized : ℕ → ℕ → ℕ → Bool
-unfolding sized
-wellSized n m i = sized n && (sized m && sized i)
-
--- and the k numbers that come with the call are as many as are asked for
-unfoldable pub fitting : ℕ → ℕ → ℕ → ℕ → ℕ → Bool
-unfolding wellSized
-fitting n m i asked k = wellSized n m i && eqb asked k
-
 -- ---- what each method answers, and the filter that it leaves; a refusal leaves the filter unchanged
 
 -- no sizes, and +0 everywhere
@@ -116,30 +89,6 @@ predictOf f u k = stepped f (where-sized (fitting (f .n) (f .m) (f .i) (f .i) k)
 abbrev pub told : KalmanFilter → Answer Correction → Updated
 told f (refused k) = record { answer = asVector (refused k); filter = f }
 told f (answered o) = record { answer = asVector (answered (o .innovation)); filter = holding f (o .estimate) }
-
--- the parts of a model that a prediction reads
-abbrev pub moving : ℕ → ℕ → Matrix → Matrix → Matrix → Model
-moving n i A B Q = record { n = n; m = 0; i = i; a = A; b = B; h = []; q = Q; r = [] }
-
--- the parts of a model that an update reads
-abbrev pub measuring : ℕ → ℕ → Matrix → Matrix → Model
-measuring n m H R = record { n = n; m = m; i = 0; a = []; b = []; h = H; q = []; r = R }
-
--- what a prediction finds: a refusal leaves x and p
-abbrev pub moved : Estimate → Moved
-moved e = record { answer = Done; x = padRow (e .state); p = flat (e .covariance) }
-
-abbrev pub movedOf : List Float → List Float → Answer Estimate → Moved
-movedOf x p (refused k) = record { answer = Refused k; x = x; p = p }
-movedOf x p (answered e) = moved e
-
--- what an update finds
-abbrev pub found : Correction → Found
-found o = record { answer = asVector (answered (o .innovation)); x = padRow (o .estimate .state); p = flat (o .estimate .covariance) }
-
-abbrev pub foundOf : List Float → List Float → Answer Correction → Found
-foundOf x p (refused k) = record { answer = asVector (refused k); x = x; p = p }
-foundOf x p (answered o) = found o
 
 abbrev pub updateOf : KalmanFilter → List Float → ℕ → Updated
 updateOf f z k = told f (if-sized (fitting (f .n) (f .m) (f .i) (f .m) k) (update (modelOf f) (estimateOf f) (cut (f .m) z)))

@@ -8,6 +8,7 @@ use lib.Dec.{leb, ltb}
 use borrow.Author.Tests.{leb-true, ltb-true, le-leb, eq-eqb}
 use lib.Ieee.{Float}
 use Rattle.scalar.proofs.Choice.{and-left, and-right, cond-true}
+use Rattle.matrix.specs.declared.Status.{Status}
 use Rattle.matrix.specs.declared.Status.the-variants.{Done, Refused}
 use Rattle.matrix.specs.declared.ScalarResult.{ScalarResult}
 use Rattle.matrix.specs.declared.ScalarResult.the-variants as Scalar
@@ -174,3 +175,7 @@ answered-value (answered y) p q = cc
 pub refused-number : (o : Answer Float) {r : ScalarResult} {k : ℕ} → r ≡ asScalar o → r ≡ Scalar.Refused k → o ≡ refused k
 refused-number (refused j) p q = cc
 refused-number (answered y) p q = cc
+
+-- ---- the cases of a status are apart
+pub done-not-refused : {k : ℕ} → _≡_ {A = Status} Done (Refused k) → ⊥
+done-not-refused e = let z : _≡_ {A = ℕ} 0 1 = cc in omega arith

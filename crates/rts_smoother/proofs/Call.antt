@@ -10,7 +10,7 @@ use Rattle.scalar.specs.Number.{+0}
 use Rattle.matrix.specs.Answer.{Answer, refused, answered, mapped, if-sized}
 use Rattle.matrix.specs.Array.{used}
 use Rattle.matrix.proofs.Tables.{table-ext}
-use Rattle.kalman.specs.Kalman.{Estimate}
+use Rattle.kalman_step.specs.Kalman.{Estimate}
 use Rattle.rts_smoother.specs.Smoother.{smooth}
 use Rattle.rts_smoother.specs.Demand3.{Demand3}
 use Rattle.rts_smoother.specs.Buffer.{pairLength, pairAt, outputOf, dutyOf}

@@ -4,7 +4,7 @@ use mathlib.Core.List.{List}
 use Prim.Native.Nat.{ℕ}
 use Rattle.matrix.specs.Answer.{Answer}
 use Rattle.matrix.specs.Matrix.{Matrix}
-use Rattle.kalman.specs.Kalman.{Estimate}
+use Rattle.kalman_step.specs.Kalman.{Estimate}
 use Rattle.rts_smoother.specs.Smoother.{Slot, Duty, smoothed, smooth}
 use Rattle.rts_smoother.specs.Demand3.{covariances, outcome, Demand3}
 use Rattle.rts_smoother.proofs.Smoother as Laws

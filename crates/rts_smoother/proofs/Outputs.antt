@@ -15,8 +15,8 @@ use Rattle.matrix.specs.Answer.{Answer, refused, answered, mapped, if-sized}
 use Rattle.matrix.proofs.Tables.{length-table}
 use Rattle.matrix.specs.Matrix.{Matrix}
 use Rattle.matrix.specs.Array.{used}
-use Rattle.kalman.specs.Kalman.{Estimate}
-use Rattle.kalman.proofs.Records.{done-not-refused}
+use Rattle.kalman_step.specs.Kalman.{Estimate}
+use Rattle.matrix.proofs.Results.{done-not-refused}
 use Rattle.rts_smoother.specs.Backward.{pass}
 use Rattle.rts_smoother.specs.Smoother.{slotGain, move, smoothed, smooth}
 use Rattle.buffer.specs.Buffer.{joined, placed}

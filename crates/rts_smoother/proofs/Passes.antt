@@ -17,9 +17,9 @@ use Rattle.matrix.proofs.Answers.{differ, same-answer}
 use Rattle.matrix.proofs.Tables.{length-table, getD-table}
 use Rattle.matrix.proofs.Vectors.{length-vecAdd}
 use Rattle.matrix.proofs.Kernels.{shape-add}
-use Rattle.kalman.specs.Kalman.{Estimate}
-use Rattle.kalman.specs.Record.{estimateFrom}
-use Rattle.kalman.proofs.Records.{done-not-refused}
+use Rattle.kalman_step.specs.Kalman.{Estimate}
+use Rattle.kalman_step.specs.Step.{estimateFrom}
+use Rattle.matrix.proofs.Results.{done-not-refused}
 use Rattle.rts_smoother.specs.Backward.{Results, listed, in-front, back, pass}
 use Rattle.rts_smoother.specs.Smoother.{Slot, slotGain, movedState, movedCovariance, move, smoothed}
 use Rattle.buffer.specs.Buffer.{joined, placed}

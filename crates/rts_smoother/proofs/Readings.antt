@@ -14,7 +14,7 @@ use Rattle.matrix.specs.Array.{cut, used}
 use Rattle.matrix.proofs.Tables.{table-ext, table-getD}
 use Rattle.matrix.proofs.Matrices.{mat-ext}
 use Rattle.matrix.proofs.Kernels.{used-all}
-use Rattle.kalman.specs.Kalman.{Estimate}
+use Rattle.kalman_step.specs.Kalman.{Estimate}
 use Rattle.rts_smoother.specs.Smoother.{Slot}
 use Rattle.buffer.specs.Buffer.{joined, placed}
 use Rattle.rts_smoother.specs.Buffer.{pairLength, stride, pairAt, slotFrom, slotAt, dutyOf, pairNumbers, slotNumbers}

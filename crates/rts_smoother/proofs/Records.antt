@@ -19,8 +19,8 @@ use Rattle.matrix.proofs.Matrices.{Shape, shape-mat}
 use Rattle.matrix.proofs.Arrays.{length-cut, shape-used, kept-sized}
 use Rattle.matrix.proofs.Results.{Size, as-answered, sized-true}
 use Rattle.matrix.proofs.Kernels.{used-rowsOfFlat}
-use Rattle.kalman.specs.Kalman.{Estimate}
-use Rattle.kalman.specs.Record.{estimateFrom}
+use Rattle.kalman_step.specs.Kalman.{Estimate}
+use Rattle.kalman_step.specs.Step.{estimateFrom}
 use Rattle.rts_smoother.specs.declared.FilteredState.{FilteredState}
 use Rattle.rts_smoother.specs.declared.StateResult.{StateResult}
 use Rattle.rts_smoother.specs.declared.RtsSmoother.{RtsSmoother}

@@ -9,7 +9,7 @@ use Rattle.matrix.specs.Matrix.{Matrix, mul, add, sub, transpose}
 use Rattle.matrix.proofs.Answers.{same-refusal, same-answer, mapped-refused, refused-mapped}
 use Rattle.inverse.specs.Inverse.{inv}
 use Rattle.inverse.proofs.Laws.{inv-refused}
-use Rattle.kalman.specs.Kalman.{Estimate, gain}
+use Rattle.kalman_step.specs.Kalman.{Estimate, gain}
 use Rattle.rts_smoother.specs.Backward.{back, pass, BeforeLast, this, later, Same}
 use Rattle.rts_smoother.specs.Smoother.{Slot, slotGain, movedCovariance, move}
 use Rattle.rts_smoother.specs.Demand3.{Rejected, Covariances, covariances, outcome}

@@ -23,8 +23,9 @@ use Rattle.matrix.proofs.Kernels.{cells-sized, used-sized, cut-sized, shape-sub
 use Rattle.buffer.specs.Buffer.{vectorAt, matrixAt, room}
 use Rattle.buffer.proofs.Calls.{vector-read, matrix-read}
 use Rattle.inverse.specs.Inverse.{inv}
-use Rattle.kalman.specs.Kalman.{gain}
-use Rattle.kalman.proofs.Records.{shape-gain, was-answered, was-refused}
+use Rattle.kalman_step.specs.Kalman.{gain}
+use Rattle.inverse.proofs.Laws.{was-answered, was-refused}
+use Rattle.kalman_step.proofs.Steps.{shape-gain}
 use Rattle.rts_smoother.specs.Smoother.{Slot, slotGain, movedState, movedCovariance}
 use Rattle.rts_smoother.specs.Buffer.{pairLength, stride, pairAt, slotFrom}
 use Rattle.rts_smoother.specs.Record.{statusOf, Stepped, stateMoved, covarianceMoved}

@@ -10,7 +10,7 @@ use Rattle.matrix.specs.Table.{table}
 use Rattle.matrix.specs.Matrix.{Matrix}
 use Rattle.matrix.specs.Result.{sized}
 use Rattle.buffer.specs.Buffer.{vectorAt, matrixAt, joined}
-use Rattle.kalman.specs.Kalman.{Estimate}
+use Rattle.kalman_step.specs.Kalman.{Estimate}
 use Rattle.rts_smoother.specs.Smoother.{Slot, Duty}
 
 -- how many numbers a pair takes, and a slot, which is two pairs

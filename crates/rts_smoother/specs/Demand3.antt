@@ -7,7 +7,7 @@ use lib.ListN.{length, drop}
 use Rattle.matrix.specs.Answer.{Answer, refused, answered, mapped}
 use Rattle.matrix.specs.Matrix.{Matrix}
 use Rattle.inverse.specs.Inverse.{inv}
-use Rattle.kalman.specs.Kalman.{Estimate}
+use Rattle.kalman_step.specs.Kalman.{Estimate}
 use Rattle.rts_smoother.specs.Backward.{BeforeLast, Same}
 use Rattle.rts_smoother.specs.Smoother.{Slot, Duty}
 

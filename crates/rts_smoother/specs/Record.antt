@@ -14,8 +14,8 @@ use Rattle.matrix.specs.Matrix.{Vector, Matrix}
 use Rattle.matrix.specs.Array.{cut, used, padRow, pad}
 use Rattle.matrix.specs.Kernel.{flatOfRows}
 use Rattle.matrix.specs.Result.{sized, asTest}
-use Rattle.kalman.specs.Kalman.{Estimate}
-use Rattle.kalman.specs.Record.{estimateIn, estimateFrom}
+use Rattle.kalman_step.specs.Kalman.{Estimate}
+use Rattle.kalman_step.specs.Step.{estimateIn, estimateFrom}
 use Rattle.rts_smoother.specs.declared.FilteredState.{FilteredState}
 use Rattle.rts_smoother.specs.declared.StateResult.{StateResult}
 use Rattle.rts_smoother.specs.declared.RtsSmoother.{RtsSmoother}

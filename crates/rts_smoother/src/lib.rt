@@ -10,7 +10,7 @@ ghost use Rattle.rts_smoother.specs.Record.{slotOf, storable, stateFrom,
 ghost use mathlib.Core.Bool.{true};
 ghost use Rattle.matrix.specs.Table.{table};
 ghost use Rattle.matrix.specs.Result.{sized};
-ghost use Rattle.kalman.specs.Kalman.{gain};
+ghost use Rattle.kalman_step.specs.Kalman.{gain};
 ghost use Rattle.rts_smoother.specs.Smoother.{smoothed};
 use matrix::Status;
 use matrix::TestResult;
@@ -490,7 +490,7 @@ fn step<'a>(
         Status::Done => {
             let rows = matrix::rows_of(w);
             let c = buffer::matrix_at(slots, k + n, n, n);
-            let g = kalman::gain(&c, f, &rows, n, n);
+            let g = kalman_step::gain(&c, f, &rows, n, n);
             let state = buffer::vector_at(slots, k, n);
             let y = buffer::vector_at(slots, k + (n + n * n), n);
             *x = moved_state(&state, &y, &g, x, n);

@@ -3,7 +3,7 @@ use mathlib.Core.Path.{refl}
 use borrow.Author.Needs.{needs}
 use Rattle.matrix.specs.Matrix.{sumFrom, mul, transpose}
 use Rattle.matrix.specs.Array.{cut, used, pad}
-use Rattle.kalman.specs.Kalman.{gain}
+use Rattle.kalman_step.specs.Kalman.{gain}
 use Rattle.rts_smoother.proofs.gain_two.Statement.{statement}
 use Rattle.rts_smoother.proofs.gain_two.Tie as tie
 

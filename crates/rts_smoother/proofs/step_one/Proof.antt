@@ -5,7 +5,7 @@ use Rattle.matrix.specs.Matrix.{sumFrom, mul, matvec, transpose, add, sub, vecA
 use Rattle.matrix.specs.Array.{cut, used, pad}
 use Rattle.matrix.specs.Result.{sized}
 use Rattle.matrix.proofs.Results.{size-of}
-use Rattle.kalman.specs.Kalman.{gain}
+use Rattle.kalman_step.specs.Kalman.{gain}
 use Rattle.rts_smoother.specs.Smoother.{movedState, movedCovariance}
 use Rattle.rts_smoother.proofs.Steps.{step-done, step-refused}
 use Rattle.rts_smoother.proofs.step_one.Statement.{statement}

@@ -6,7 +6,7 @@ use native.Mathlib.Omega.{arith}
 use lib.Dec.{eqb}
 use borrow.Author.Needs.{needs}
 use Rattle.matrix.specs.Result.{sized}
-use Rattle.kalman.proofs.Records.{well-sized}
+use Rattle.kalman_step.proofs.Steps.{well-sized}
 use Rattle.estimators.specs.Filter.{filterLength, isFilter}
 use Rattle.estimators.proofs.Filters.{products}
 use Rattle.estimators.proofs.filter.is_filter.Statement.{statement}

@@ -7,7 +7,7 @@ use Rattle.scalar.proofs.Choice.{and-left, and-right}
 use Rattle.matrix.specs.Answer.{answered}
 use Rattle.matrix.specs.Result.{asMatrix}
 use Rattle.matrix.proofs.Matrices.{shape-mat}
-use Rattle.kalman.specs.Kalman.{Estimate}
+use Rattle.kalman_step.specs.Kalman.{Estimate}
 use Rattle.rts_smoother.specs.Buffer.{pairAt}
 use Rattle.estimators.specs.Slices.{isRows, wrote}
 use Rattle.estimators.specs.Filter.{isFilter, estimateIn}

@@ -12,8 +12,9 @@ use Rattle.matrix.specs.Kernel.{flatOfRows}
 use Rattle.matrix.specs.Result.{sized}
 use Rattle.buffer.specs.Buffer.{left}
 use Rattle.kalman.specs.declared.KalmanFilter.{KalmanFilter}
-use Rattle.kalman.specs.Kalman.{Model, tracker, atStart}
-use Rattle.kalman.specs.Record.{wellSized, modelOf, estimateOf, trackerOf}
+use Rattle.kalman_step.specs.Kalman.{Model, tracker, atStart}
+use Rattle.kalman_step.specs.Step.{wellSized}
+use Rattle.kalman.specs.Record.{modelOf, estimateOf, trackerOf}
 use Rattle.estimators.specs.Slices.{written}
 use Rattle.estimators.specs.Filter.{isFilter, filterNumbers}
 use Rattle.estimators.proofs.Ways.{answers, refuses-where}

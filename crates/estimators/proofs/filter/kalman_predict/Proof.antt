@@ -6,7 +6,7 @@ use borrow.Author.Needs.{needs}
 use Rattle.matrix.specs.Array.{cut, usedFlat}
 use Rattle.matrix.proofs.Results.{sized-true}
 use Rattle.buffer.specs.Buffer.{left, placed}
-use Rattle.kalman.specs.Kalman.{predict}
+use Rattle.kalman_step.specs.Kalman.{predict}
 use Rattle.rts_smoother.specs.Buffer.{pairNumbers}
 use Rattle.rts_smoother.specs.Record.{estimate}
 use Rattle.estimators.specs.Slices.{written}

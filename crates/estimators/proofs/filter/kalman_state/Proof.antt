@@ -7,7 +7,7 @@ use Rattle.scalar.proofs.Choice.{and-left, and-right}
 use Rattle.matrix.specs.Answer.{answered}
 use Rattle.matrix.specs.Result.{asVector}
 use Rattle.matrix.proofs.Tables.{length-table}
-use Rattle.kalman.specs.Kalman.{Estimate}
+use Rattle.kalman_step.specs.Kalman.{Estimate}
 use Rattle.rts_smoother.specs.Buffer.{pairAt}
 use Rattle.estimators.specs.Slices.{isRows, written}
 use Rattle.estimators.specs.Filter.{isFilter, estimateIn}

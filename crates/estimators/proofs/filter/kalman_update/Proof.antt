@@ -11,7 +11,7 @@ use Rattle.matrix.proofs.Results.{sized-true}
 use Rattle.matrix.proofs.Arrays.{length-cut}
 use Rattle.buffer.specs.Buffer.{placed, left}
 use Rattle.buffer.proofs.Calls.{vector-put}
-use Rattle.kalman.specs.Kalman.{update}
+use Rattle.kalman_step.specs.Kalman.{update}
 use Rattle.rts_smoother.specs.Buffer.{pairNumbers}
 use Rattle.rts_smoother.specs.Record.{estimate}
 use Rattle.estimators.specs.Slices.{isRows}

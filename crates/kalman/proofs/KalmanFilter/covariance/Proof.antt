@@ -3,8 +3,8 @@ use mathlib.Core.Path.{sym, ap, _∙_}
 use Rattle.matrix.specs.Array.{pad}
 use Rattle.matrix.proofs.Results.{size-of, shaped-true, matrix-answered, matrix-refused}
 use Rattle.matrix.proofs.Kernels.{rows-sized}
-use Rattle.kalman.proofs.Parts.{from-flat}
-use Rattle.kalman.proofs.Records.{well-sized}
+use Rattle.kalman_step.proofs.Parts.{from-flat}
+use Rattle.kalman_step.proofs.Steps.{well-sized}
 use borrow.Author.Needs.{needs}
 use Rattle.kalman.proofs.KalmanFilter.covariance.Statement.{statement}
 use Rattle.kalman.proofs.KalmanFilter.covariance.Tie as tie

@@ -4,7 +4,7 @@ use Rattle.scalar.specs.Number.{+0}
 use Rattle.matrix.specs.Matrix.{scale, identity}
 use Rattle.matrix.specs.Array.{pad}
 use Rattle.matrix.specs.Kernel.{flatOfRows}
-use Rattle.kalman.specs.Kalman.{tracker, atStart}
+use Rattle.kalman_step.specs.Kalman.{tracker, atStart}
 use borrow.Author.Needs.{needs}
 use Rattle.kalman.proofs.KalmanFilter.position_velocity.Statement.{statement}
 use Rattle.kalman.proofs.KalmanFilter.position_velocity.Tie as tie

@@ -1,7 +1,8 @@
 -- `KalmanFilter::predict` meets its contract.
 use Rattle.matrix.specs.Array.{cut}
-use Rattle.kalman.specs.Kalman.{predict}
-use Rattle.kalman.specs.Record.{modelOf, estimateOf, fitting}
+use Rattle.kalman_step.specs.Kalman.{predict}
+use Rattle.kalman_step.specs.Step.{fitting}
+use Rattle.kalman.specs.Record.{modelOf, estimateOf}
 use Rattle.kalman.proofs.Records.{step-is}
 use borrow.Author.Needs.{needs}
 use Rattle.kalman.proofs.KalmanFilter.predict.Statement.{statement}

@@ -1,7 +1,8 @@
 -- `KalmanFilter::reset` meets its contract.
 use mathlib.Core.Path.{sym, _∙_}
 use Rattle.matrix.proofs.Results.{size-of}
-use Rattle.kalman.proofs.Records.{fits, reset-done, step-refused}
+use Rattle.kalman_step.proofs.Steps.{fits}
+use Rattle.kalman.proofs.Records.{reset-done, step-refused}
 use borrow.Author.Needs.{needs}
 use Rattle.kalman.proofs.KalmanFilter.reset.Statement.{statement}
 use Rattle.kalman.proofs.KalmanFilter.reset.Tie as tie

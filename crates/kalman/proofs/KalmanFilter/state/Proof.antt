@@ -2,7 +2,7 @@
 use mathlib.Core.Path.{sym, _∙_}
 use Rattle.matrix.proofs.Results.{size-of, vector-answered, vector-refused}
 use Rattle.matrix.proofs.Arrays.{kept-sized}
-use Rattle.kalman.proofs.Records.{well-sized}
+use Rattle.kalman_step.proofs.Steps.{well-sized}
 use borrow.Author.Needs.{needs}
 use Rattle.kalman.proofs.KalmanFilter.state.Statement.{statement}
 use Rattle.kalman.proofs.KalmanFilter.state.Tie as tie

@@ -1,8 +1,9 @@
 -- `KalmanFilter::update` meets its contract.
 use Rattle.matrix.specs.Answer.{if-sized}
 use Rattle.matrix.specs.Array.{cut}
-use Rattle.kalman.specs.Kalman.{update, correction}
-use Rattle.kalman.specs.Record.{modelOf, estimateOf, fitting}
+use Rattle.kalman_step.specs.Kalman.{update, correction}
+use Rattle.kalman_step.specs.Step.{fitting}
+use Rattle.kalman.specs.Record.{modelOf, estimateOf}
 use Rattle.kalman.proofs.Records.{told-is}
 use borrow.Author.Needs.{needs}
 use Rattle.kalman.proofs.KalmanFilter.update.Statement.{statement}

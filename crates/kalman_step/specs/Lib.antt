@@ -1,0 +1,2 @@
+pub mod Kalman
+pub mod Step
