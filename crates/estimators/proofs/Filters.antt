@@ -13,31 +13,32 @@ use Rattle.matrix.specs.declared.Status.{Status}
 use Rattle.matrix.specs.declared.Status.the-variants.{Done, Refused}
 use Rattle.matrix.specs.Answer.{Answer, refused, answered, mapped, where-sized, if-sized}
 use Rattle.matrix.specs.Matrix.{Vector, Matrix}
-use Rattle.matrix.specs.Array.{cut, used, usedFlat}
+use Rattle.matrix.specs.Array.{cut, used, usedFlat, padRow}
 use Rattle.matrix.specs.Result.{sized, shaped}
 use Rattle.matrix.specs.Kernel.{rowsOf, rowsOfFlat, flatOfRows}
 use Rattle.matrix.proofs.Answers.{differ, same-answer}
 use Rattle.matrix.proofs.Matrices.{Shape, shape-mat, shape-mul}
-use Rattle.matrix.proofs.Vectors.{length-vecAdd, length-vecSub}
+use Rattle.matrix.proofs.Vectors.{length-vecAdd}
 use Rattle.matrix.proofs.Arrays.{length-cut, cut-padRow}
 use Rattle.matrix.proofs.Results.{Size, size-of, sized-true, done-not-refused}
 use Rattle.matrix.proofs.Kernels.{usedFlat-pad, used-rowsOfFlat}
 use Rattle.inverse.specs.Inverse.{inv}
-use Rattle.buffer.specs.Buffer.{matrixAt, joined, placed, room, left}
+use Rattle.buffer.specs.Buffer.{vectorAt, matrixAt, joined, placed, room, Left, left}
 use Rattle.buffer.proofs.Places.{then-placed, length-rows}
 use Rattle.buffer.proofs.Calls.{matrix-read, matrix-put}
+use Rattle.kalman_step.specs.declared.Moved.{Moved}
+use Rattle.kalman_step.specs.declared.Found.{Found}
+use Rattle.kalman_step.specs.Kalman.{Model, Estimate, Correction, propagated, corrected, predict, correction, update}
+use Rattle.kalman_step.specs.Step.{flat, estimateIn as estimateHeld, estimateFrom as estimateRows, wellSized, fitting, moving, measuring, moved, movedOf, foundOf}
+use Rattle.kalman_step.proofs.Steps.{well-sized, shape-propagated, length-innovation}
 use Rattle.kalman.specs.declared.KalmanFilter.{KalmanFilter}
 use Rattle.kalman.specs.declared.Stepped.{Stepped}
-use Rattle.kalman.specs.declared.Updated.{Updated}
-use Rattle.kalman_step.specs.Kalman.{Model, Estimate, Correction, propagated, innovationOf, corrected, predict, correction, update}
-use Rattle.kalman_step.specs.Step.{estimateIn as estimateHeld, estimateFrom as estimateRows, wellSized, fitting}
-use Rattle.kalman_step.proofs.Steps.{well-sized, shape-propagated}
-use Rattle.kalman.specs.Record.{modelOf, modelFrom, estimateOf, recordOf, noFilter, newOf, holding, stepped, predictOf, resetOf, updateOf, told}
-use Rattle.rts_smoother.specs.Buffer.{pairNumbers}
+use Rattle.kalman.specs.Record.{modelOf, modelFrom, estimateOf, recordOf, noFilter, newOf, stepped}
+use Rattle.rts_smoother.specs.Buffer.{pairAt, pairNumbers}
 use Rattle.rts_smoother.specs.Record.{estimate}
-use Rattle.rts_smoother.proofs.Records.{Paired, paired-used, length-pair, pair-placed}
-use Rattle.estimators.specs.Slices.{isRows, rows}
-use Rattle.estimators.specs.Filter.{estimateFrom, filterLength, isFilter, isStep, isParts, modelIn, estimateIn, modelOfRows, filterNumbers, updatedIn}
+use Rattle.rts_smoother.proofs.Records.{Paired, paired-at, length-pair, pair-placed}
+use Rattle.estimators.specs.Slices.{isRows, rows, written}
+use Rattle.estimators.specs.Filter.{inputFrom, measuringFrom, processFrom, noiseFrom, estimateFrom, filterLength, isFilter, isStep, isParts, modelIn, estimateIn, modelOfRows, filterNumbers, withEstimate, correctedIn, foundIn}
 use Rattle.estimators.proofs.Ways.{Whole, whole-of, two-of, three-of, placed-whole}
 
 -- ---- products of sizes are small
@@ -101,11 +102,13 @@ step-of n m i k asked j e =
     let w = and-left _ _ e in
     record { whole = w; fit = fit-of n m i k w; same = eqb-true j asked (and-right (isFilter n m i k) _ e) }
 
--- ---- a matrix read flat
+-- ---- a matrix read flat, and its used part
 pub flat-read : {r c : ℕ} (k : ℕ) (b : List Float) {m : List (List Float)} {v : List Float} → Size r → Size c → k + r * c ≤ length b
-    → m ≡ rowsOf (where-sized (shaped r c && room k (r * c) (length b)) (matrixAt r c b k)) → v ≡ flatOfRows m → usedFlat r c v ≡ matrixAt r c b k
-flat-read {r} {c} k b R C h p q =
-    ap (usedFlat r c) (q ∙ ap flatOfRows (matrix-read k b R C h p)) ∙ usedFlat-pad r c (matrixAt r c b k) (shape-mat r c _) (R .most) (C .most)
+    → m ≡ rowsOf (where-sized (shaped r c && room k (r * c) (length b)) (matrixAt r c b k)) → v ≡ flatOfRows m → v ≡ flat (matrixAt r c b k)
+flat-read k b R C h p q = q ∙ ap flatOfRows (matrix-read k b R C h p)
+
+flat-back : {r c : ℕ} (k : ℕ) (b : List Float) {v : List Float} → Size r → Size c → v ≡ flat (matrixAt r c b k) → usedFlat r c v ≡ matrixAt r c b k
+flat-back {r} {c} k b R C q = ap (usedFlat r c) q ∙ usedFlat-pad r c (matrixAt r c b k) (shape-mat r c _) (R .most) (C .most)
 
 -- ---- an estimate written into a slice
 pub estimate-put : {n : ℕ} (k : ℕ) (b : List Float) (x fp : List Float) {p : List (List Float)} {b₁ : List Float} → Size n → k + (n + n * n) ≤ length b → p ≡ rowsOfFlat fp
@@ -245,39 +248,8 @@ module _ {n m i : ℕ} (a b h q r x p : List Float) {g : KalmanFilter} (made-of 
       (model-back M E N K I (record { a = shape-mat n n _; b = shape-mat n i _; h = shape-mat m n _; q = shape-mat n n _; r = shape-mat m m _ }))
       (estimate-back M E N K I (record { state = long; covariance = shape-mat n n _ }))
 
--- ---- a record f that was read from the slice b
-module _ {n m i : ℕ} (b : List Float) (f : KalmanFilter) (F : Fit n m i (length b)) (M : modelOf f ≡ modelIn n m i b) where
-  well-fitting : wellSized n m i ≡ true
-  unfolding wellSized
-  well-fitting = λ j. sized-true (F .states) j && (sized-true (F .measurements) j && sized-true (F .inputs) j)
-
-  pub sizes-right : wellSized (f .n) (f .m) (f .i) ≡ true
-  sizes-right = ap (λ (A : Model). wellSized A.n A.m A.i) M ∙ well-fitting
-
-  -- p is the size that is asked for
-  pub numbers-right : (p : Model → ℕ) → fitting (f .n) (f .m) (f .i) (p (modelOf f)) (p (modelIn n m i b)) ≡ true
-  unfolding fitting
-  numbers-right p =
-      let k = p (modelIn n m i b) in
-      ap (λ (A : Model). fitting A.n A.m A.i (p A) k) M ∙ (λ j. well-fitting j && eq-eqb k k refl j)
-
-  same-states : f .n ≡ n
-  same-states = ap (λ (A : Model). A.n) M
-
-  -- the record g that a step leaves holds its estimate
-  pub held : (e : Estimate) (g : KalmanFilter) → Paired n e → g ≡ holding f e → estimateHeld n (g .x) (g .p) ≡ e
-  held e g s q =
-      let N = F .states in
-      ap (λ (h : KalmanFilter). estimateHeld n (h .x) (h .p)) q
-      ∙ ap₂ estimate (cut-padRow n (e .state) (s .state)) (usedFlat-pad n n (e .covariance) (s .covariance) (N .most) (N .most))
-
-  pub left-by : (s : Stepped) (e : Estimate) {t : Bool} → Paired n e → t ≡ true → s ≡ stepped f (where-sized t (holding f e))
-      → estimateHeld n (s .filter .x) (s .filter .p) ≡ e
-  left-by s e P h q =
-      held e (s .filter) P (ap (λ (x : Stepped). x .filter) (q ∙ ap (λ (t : Bool). stepped f (where-sized t (holding f e))) h))
-
--- ---- what each step leaves has the sizes of the filter
-pub paired-predict : (M : Model) (e : Estimate) (u : Vector) → Paired M.n (predict M e u)
+-- ---- what each step finds has the sizes of the filter
+paired-predict : (M : Model) (e : Estimate) (u : Vector) → Paired M.n (predict M e u)
 unfolding predict
 paired-predict M e u = record { state = length-vecAdd _ _ _; covariance = shape-propagated _ _ _ _ _ }
 
@@ -285,70 +257,104 @@ paired-correction : (M : Model) (e : Estimate) (z : Vector) (W : Matrix) → Pai
 unfolding correction corrected
 paired-correction M e z W = record { state = length-vecAdd _ _ _; covariance = shape-mul _ _ _ _ _ }
 
-length-innovation : (M : Model) (e : Estimate) (z : Vector) (W : Matrix) → length (correction M e z W .innovation) ≡ M.m
-unfolding correction innovationOf
-length-innovation M e z W = length-vecSub _ _ _
-
-pub record Corrected (M : Model) (C : Correction) : Type 0 where
-  pub paired : Paired M.n (C .estimate)
-  pub long : length (C .innovation) ≡ M.m
-
-pub corrected-of : (M : Model) (e : Estimate) (z : Vector) (C : Correction) → update M e z ≡ answered C → Corrected M C
+paired-update : (M : Model) (e : Estimate) (z : Vector) (C : Correction) → update M e z ≡ answered C → Paired M.n (C .estimate)
 unfolding update
-corrected-of M e z C p = go (inv M.m (propagated M.m M.n M.h (e .covariance) M.r)) p
+paired-update M e z C p = go (inv M.m (propagated M.m M.n M.h (e .covariance) M.r)) p
   where
-    go : (a : Answer Matrix) → mapped (correction M e z) a ≡ answered C → Corrected M C
+    go : (a : Answer Matrix) → mapped (correction M e z) a ≡ answered C → Paired M.n (C .estimate)
     go (refused k) q = absurd (differ q)
-    go (answered W) q = subst (Corrected M) (same-answer q) (record { paired = paired-correction M e z W; long = length-innovation M e z W })
+    go (answered W) q = subst (λ (o : Correction). Paired M.n (o .estimate)) (same-answer q) (paired-correction M e z W)
 
-pub predicted : {n m i : ℕ} (b : List Float) (f : KalmanFilter) → Fit n m i (length b) → modelOf f ≡ modelIn n m i b → estimateOf f ≡ estimateIn n m i b
-    → (s : Stepped) (v : List Float) {u : List Float} → cut i v ≡ u → s ≡ predictOf f v i
-    → estimateHeld n (s .filter .x) (s .filter .p) ≡ predict (modelIn n m i b) (estimateIn n m i b) u
-predicted {n} {m} {i} b f F M E s v U q =
-    let e = predict (modelOf f) (estimateOf f) (cut (f .i) v) in
-    let inputs : f .i ≡ i = ap (λ (A : Model). A.i) M in
-    left-by b f F M s e (subst (λ (k : ℕ). Paired k e) (ap (λ (A : Model). A.n) M) (paired-predict (modelOf f) (estimateOf f) (cut (f .i) v)))
-    (numbers-right b f F M (λ A. A.i)) q
-    ∙ ap₂ (λ (A : Model) (d : Estimate). predict A d (cut (f .i) v)) M E
-    ∙ ap (predict (modelIn n m i b) (estimateIn n m i b)) (ap (λ (k : ℕ). cut k v) inputs ∙ U)
+-- an estimate of n states, in arrays and back
+held : {n : ℕ} (e : Estimate) → Size n → Paired n e → estimateHeld n (padRow (e .state)) (flat (e .covariance)) ≡ e
+held {n} e N s = ap₂ estimate (cut-padRow n (e .state) (s .state)) (usedFlat-pad n n (e .covariance) (s .covariance) (N .most) (N .most))
 
-pub restarted : {n m i : ℕ} (b : List Float) (f : KalmanFilter) → Fit n m i (length b) → modelOf f ≡ modelIn n m i b
-    → (s : Stepped) (v : List Float) (p : List (List Float)) {x : Vector} {P : Matrix} → cut n v ≡ x → used n n p ≡ P → s ≡ resetOf f v p n
-    → estimateHeld n (s .filter .x) (s .filter .p) ≡ estimate x P
-restarted {n} {m} {i} b f F M s v p X P q =
-    let e = estimateRows (f .n) v p in
-    let states : f .n ≡ n = ap (λ (A : Model). A.n) M in
-    left-by b f F M s e (subst (λ (k : ℕ). Paired k e) states (paired-used (f .n) v p)) (numbers-right b f F M (λ A. A.n)) q
-    ∙ ap (λ (k : ℕ). estimateRows k v p) states
-    ∙ ap₂ estimate X P
+-- ---- a step of the filter in the slice f, on arrays that were read from it: k is where its estimate begins
+module _ {n m i : ℕ} (f : List Float) (F : Fit n m i (length f)) where
+  abbrev model : Model
+  model = modelIn n m i f
 
--- ---- an update of the record f: o is its answer
-module _ {n m i : ℕ} (b : List Float) (f : KalmanFilter) (F : Fit n m i (length b)) (M : modelOf f ≡ modelIn n m i b) where
-  pub update-out : (o : Answer Correction) (s : Updated) (y : List Float) {b₁ y₁ : List Float}
-      → ((C : Correction) → o ≡ answered C → Corrected (modelIn n m i b) C) → s ≡ told f o → s .answer .status ≡ Done
-      → b₁ ≡ placed (estimateFrom n m i) (pairNumbers (estimateHeld n (s .filter .x) (s .filter .p))) b → y₁ ≡ cut m (s .answer .cells)
-      → left {R = ℕ} 0 (b₁, y₁) ≡ updatedIn n m i b y o
-  update-out (refused k) s y c p d g h = absurd (done-not-refused (sym d ∙ ap (λ (x : Updated). x .answer .status) p))
-  update-out (answered C) s y c p d g h =
-      let fit = c C refl in
-      let isE = held b f F M (C .estimate) (s .filter) (fit .paired) (ap (λ (x : Updated). x .filter) p) in
-      let isY = h ∙ ap (λ (x : Updated). cut m (x .answer .cells)) p ∙ cut-padRow m (C .innovation) (fit .long) in
-      ap₂ (λ (v w : List Float). left {R = ℕ} 0 (v, w)) (g ∙ ap (λ (e : Estimate). placed (estimateFrom n m i) (pairNumbers e) b) isE) isY
+  abbrev before : Estimate
+  before = estimateIn n m i f
 
-  pub update-no : (o : Answer Correction) (s : Updated) (y : List Float) {k : ℕ} → s ≡ told f o → s .answer .status ≡ Refused k
-      → left k (b, y) ≡ updatedIn n m i b y o
-  update-no (refused j) s y {k} p d =
-      let z : _≡_ {A = Status} (Refused j) (Refused k) = sym (ap (λ (x : Updated). x .answer .status) p) ∙ d in
-      let same : k ≡ j = cc in
-      ap (λ (x : ℕ). left x (b, y)) same
-  update-no (answered C) s y p d = absurd (done-not-refused (sym (ap (λ (x : Updated). x .answer .status) p) ∙ d))
+  fits-well : (k : ℕ) → fitting n m i k k ≡ true
+  unfolding fitting wellSized
+  fits-well k = λ j. (sized-true (F .states) j && (sized-true (F .measurements) j && sized-true (F .inputs) j)) && eq-eqb k k refl j
 
-  pub updated : (z : List Float) (s : Updated) (v : List Float) → estimateOf f ≡ estimateIn n m i b → cut m v ≡ z → s ≡ updateOf f v m
-      → s ≡ told f (update (modelIn n m i b) (estimateIn n m i b) z)
-  updated z s v E Z q =
-      let measurements : f .m ≡ m = ap (λ (A : Model). A.m) M in
-      q
-      ∙ ap (λ (t : Bool). told f (if-sized t (update (modelOf f) (estimateOf f) (cut (f .m) v)))) (numbers-right b f F M (λ A. A.m))
-      ∙ ap (λ (k : ℕ). told f (update (modelOf f) (estimateOf f) (cut k v))) measurements
-      ∙ ap (λ (w : Vector). told f (update (modelOf f) (estimateOf f) w)) Z
-      ∙ ap₂ (λ (A : Model) (e : Estimate). told f (update A e z)) M E
+  -- the filter with an estimate that was found in arrays x and p
+  pub left-there : {k : ℕ} {x p b₁ : List Float} (e : Estimate) → Paired n e → k ≡ estimateFrom n m i → x ≡ padRow (e .state) → p ≡ flat (e .covariance)
+      → b₁ ≡ placed k (pairNumbers (estimateHeld n x p)) f → b₁ ≡ withEstimate n m i f e
+  left-there {k} {x} {p} e s at ex ep d =
+      d ∙ (λ j. placed (at j) (pairNumbers (estimateHeld n (ex j) (ep j))) f) ∙ ap (λ (d : Estimate). withEstimate n m i f d) (held e (F .states) s)
+
+  module _ {k : ℕ} {x p : List Float} (at : k ≡ estimateFrom n m i) (ex : x ≡ padRow (vectorAt n f k)) (ep : p ≡ flat (matrixAt n n f (k + n))) where
+    state-read : x ≡ padRow (before .state)
+    unfolding pairAt
+    state-read = ex ∙ ap (λ (j : ℕ). padRow (vectorAt n f j)) at
+
+    covariance-read : p ≡ flat (before .covariance)
+    unfolding pairAt
+    covariance-read = ep ∙ ap (λ (j : ℕ). flat (matrixAt n n f (j + n))) at
+
+    estimate-read : estimateHeld n x p ≡ before
+    unfolding pairAt
+    estimate-read = (λ j. estimateHeld n (state-read j) (covariance-read j)) ∙ held before (F .states) (paired-at n f (estimateFrom n m i))
+
+    pub prediction : (u v : List Float) {a b q : List Float} {w : Moved} → a ≡ flat (matrixAt n n f 0) → b ≡ flat (matrixAt n i f (inputFrom n)) → q ≡ flat (matrixAt n n f (processFrom n m i)) → cut i v ≡ u
+        → w ≡ movedOf x p (where-sized (fitting n m i i i) (predict (moving n i (usedFlat n n a) (usedFlat n i b) (usedFlat n n q)) (estimateHeld n x p) (cut i v)))
+        → w ≡ moved (predict model before u)
+    unfolding predict
+    prediction u v {a} {b} {q} ea eb eq eu e =
+        let N = F .states in
+        let isA = flat-back 0 f N N ea in
+        let isB = flat-back (inputFrom n) f N (F .inputs) eb in
+        let isQ = flat-back (processFrom n m i) f N N eq in
+        e
+        ∙ ap (λ (t : Bool). movedOf x p (where-sized t (predict (moving n i (usedFlat n n a) (usedFlat n i b) (usedFlat n n q)) (estimateHeld n x p) (cut i v)))) (fits-well i)
+        ∙ (λ j. moved (predict (moving n i (isA j) (isB j) (isQ j)) (estimate-read j) (eu j)))
+
+    pub correcting : (z v : List Float) {h r : List Float} {w : Found} → h ≡ flat (matrixAt m n f (measuringFrom n i)) → r ≡ flat (matrixAt m m f (noiseFrom n m i)) → cut m v ≡ z
+        → w ≡ foundOf x p (if-sized (fitting n m i m m) (update (measuring n m (usedFlat m n h) (usedFlat m m r)) (estimateHeld n x p) (cut m v)))
+        → w ≡ foundIn n m i f z
+    unfolding update correction
+    correcting z v {h} {r} eh er ez e =
+        let M = F .measurements in
+        let isH = flat-back (measuringFrom n i) f M (F .states) eh in
+        let isR = flat-back (noiseFrom n m i) f M M er in
+        e
+        ∙ ap (λ (t : Bool). foundOf x p (if-sized t (update (measuring n m (usedFlat m n h) (usedFlat m m r)) (estimateHeld n x p) (cut m v)))) (fits-well m)
+        ∙ (λ j. foundOf (state-read j) (covariance-read j) (update (measuring n m (isH j) (isR j)) (estimate-read j) (ez j)))
+
+  -- ---- the ways out of a step: b₁ is the slice that it leaves
+  pub predicted : (u : List Float) {k : ℕ} {w : Moved} {b₁ : List Float} → k ≡ estimateFrom n m i → w ≡ moved (predict model before u)
+      → b₁ ≡ placed k (pairNumbers (estimateHeld n (w .x) (w .p))) f → b₁ ≡ withEstimate n m i f (predict model before u)
+  predicted u at e d = left-there (predict model before u) (paired-predict model before u) at (ap (λ (w : Moved). w .x) e) (ap (λ (w : Moved). w .p) e) d
+
+  -- o is what an update answers, w what it finds, y₁ the innovation that it leaves
+  module _ (z y : List Float) where
+    abbrev told : Answer Correction → Left ℕ (List Float × List Float)
+    told o = written (f, y) (mapped (correctedIn n m i f) o)
+
+    abbrev found-as : Answer Correction → Found
+    found-as o = foundOf (padRow (before .state)) (flat (before .covariance)) o
+
+    pub updated : {k : ℕ} {w : Found} {b₁ y₁ : List Float} → k ≡ estimateFrom n m i → w ≡ foundIn n m i f z → w .answer .status ≡ Done
+        → b₁ ≡ placed k (pairNumbers (estimateHeld n (w .x) (w .p))) f → y₁ ≡ cut m (w .answer .cells) → left {R = ℕ} 0 (b₁, y₁) ≡ told (update model before z)
+    updated {k} {w} {b₁} {y₁} at e s d g = go (update model before z) refl e
+      where
+        go : (o : Answer Correction) → update model before z ≡ o → w ≡ found-as o → left {R = ℕ} 0 (b₁, y₁) ≡ told o
+        go (refused j) p q = absurd (done-not-refused (sym s ∙ ap (λ (x : Found). x .answer .status) q))
+        go (answered C) p q =
+            let isF = left-there (C .estimate) (paired-update model before z C p) at (ap (λ (x : Found). x .x) q) (ap (λ (x : Found). x .p) q) d in
+            let isY = g ∙ ap (λ (x : Found). cut m (x .answer .cells)) q ∙ cut-padRow m (C .innovation) (length-innovation model before z C p) in
+            ap₂ (λ (v u : List Float). left {R = ℕ} 0 (v, u)) isF isY
+
+    pub not-updated : {k : ℕ} {w : Found} → w ≡ foundIn n m i f z → w .answer .status ≡ Refused k → left k (f, y) ≡ told (update model before z)
+    not-updated {k} {w} e s = go (update model before z) e
+      where
+        go : (o : Answer Correction) → w ≡ found-as o → left k (f, y) ≡ told o
+        go (refused j) q =
+            let same-status : _≡_ {A = Status} (Refused j) (Refused k) = sym (ap (λ (x : Found). x .answer .status) q) ∙ s in
+            let same : k ≡ j = cc in
+            ap (λ (x : ℕ). left x (f, y)) same
+        go (answered C) q = absurd (done-not-refused (sym (ap (λ (x : Found). x .answer .status) q) ∙ s))

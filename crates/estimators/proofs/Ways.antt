@@ -23,7 +23,7 @@ use Rattle.matrix.specs.Result.{sized, shaped, alike, asMatrix, asVector, asSca
 use Rattle.matrix.specs.Kernel.{rowsOf, cellsOf, paired, applicable}
 use Rattle.matrix.specs.Table.{table}
 use Rattle.matrix.proofs.Answers.{differ, same-answer}
-use Rattle.matrix.proofs.Tables.{table-ext, table-getD}
+use Rattle.matrix.proofs.Tables.{table-ext, table-getD, length-table}
 use Rattle.matrix.proofs.Matrices.{Shape, shape-mat}
 use Rattle.matrix.proofs.Arrays.{length-cut, shape-used, used-pad, cut-padRow}
 use Rattle.matrix.proofs.Results.{Size, size, Sizes, sizes-of, sized-true, shaped-true}
@@ -208,3 +208,22 @@ pub vector-given : {n : ℕ} (v : VectorResult) (b : List Float) {l : List Float
 vector-given {n} v b w d p =
     let whole = placed-whole (cut n (v .cells)) b (omega (arith, length-cut n (v .cells), w .long)) in
     ap (left {R = ℕ} 0) (vector-put 0 b (v .cells) (w .rows) (omega (arith, w .long)) p ∙ whole) ∙ ap (λ (s : Status). written b (toldAs s (cut n (v .cells)))) (sym d)
+
+-- ---- a part of the slice b, from number k on, copied into o
+module _ (k : ℕ) (b o : List Float) where
+  pub vector-copied : {n : ℕ} {v o₁ : List Float} → Whole n 1 (length o) → k + n ≤ length b → v ≡ cellsOf (where-sized (sized n && room k n (length b)) (vectorAt n b k))
+      → o₁ ≡ cond (sized n && room 0 n (length o)) (placed 0 (cut n v) o) o → o₁ ≡ vectorAt n b k
+  vector-copied {n} {v} w h p q =
+      vector-put 0 o v (w .rows) (omega (arith, w .long)) q
+      ∙ placed-whole (cut n v) o (omega (arith, length-cut n v, w .long))
+      ∙ ap (cut n) (vector-read k b (w .rows) h p)
+      ∙ cut-padRow n (vectorAt n b k) (length-table _ _)
+
+  pub matrix-copied : {r c : ℕ} {m : List (List Float)} {o₁ : List Float} → Whole r c (length o) → k + r * c ≤ length b
+      → m ≡ rowsOf (where-sized (shaped r c && room k (r * c) (length b)) (matrixAt r c b k))
+      → o₁ ≡ cond (shaped r c && room 0 (r * c) (length o)) (placed 0 (joined (used r c m)) o) o → o₁ ≡ joined (matrixAt r c b k)
+  matrix-copied {r} {c} {m} w h p q =
+      matrix-put 0 o m (w .rows) (w .cols) (omega (arith, w .long)) q
+      ∙ placed-whole (joined (used r c m)) o (length-rows r c (used r c m) (shape-used r c m) ∙ sym (w .long))
+      ∙ ap (λ (x : List (List Float)). joined (used r c x)) (matrix-read k b (w .rows) (w .cols) h p)
+      ∙ ap joined (used-pad r c (matrixAt r c b k) (shape-mat r c _))

@@ -3,14 +3,17 @@ use Prim.Native.Nat.{ℕ, _+_, _*_}
 use mathlib.Core.List.{List, _++_}
 use mathlib.Core.Bool.{Bool, _&&_}
 use lib.Dec.{eqb}
+use lib.ListN.{length}
 use lib.Ieee.{Float}
-use Rattle.matrix.specs.Answer.{Answer, mapped}
-use Rattle.matrix.specs.Matrix.{Vector}
-use Rattle.buffer.specs.Buffer.{matrixAt, joined, placed, Left}
-use Rattle.kalman_step.specs.Kalman.{Model, Estimate, Correction}
-use Rattle.kalman_step.specs.Step.{wellSized}
+use Rattle.matrix.specs.Answer.{Answer, mapped, where-sized, if-sized}
+use Rattle.matrix.specs.Array.{padRow}
+use Rattle.buffer.specs.Buffer.{matrixAt, joined, placed}
+use Rattle.kalman_step.specs.declared.Found.{Found}
+use Rattle.kalman_step.specs.Kalman.{Model, Estimate, Correction, predict, update, tracker, atStart}
+use Rattle.kalman_step.specs.Step.{flat, wellSized, foundOf}
 use Rattle.rts_smoother.specs.Buffer.{pairLength, pairAt, pairNumbers}
-use Rattle.estimators.specs.Slices.{isRows, isVector, rows, written}
+use Rattle.rts_smoother.specs.Record.{estimate}
+use Rattle.estimators.specs.Slices.{isRows, isVector, rows}
 
 -- ---- where the parts begin, for state n, measurement m and input i; a begins at 0
 abbrev pub inputFrom : ℕ → ℕ
@@ -71,6 +74,40 @@ filterNumbers M e = joined M.a ++ joined M.b ++ joined M.h ++ joined M.q ++ join
 abbrev pub withEstimate : ℕ → ℕ → ℕ → List Float → Estimate → List Float
 withEstimate n m i f e = placed (estimateFrom n m i) (pairNumbers e) f
 
--- ---- an update tells its number, and leaves the filter and the innovation
-abbrev pub updatedIn : ℕ → ℕ → ℕ → List Float → Vector → Answer Correction → Left ℕ (List Float × List Float)
-updatedIn n m i f y o = written (f, y) (mapped (λ o. (withEstimate n m i f (o .estimate), o .innovation)) o)
+-- ---- what each call answers, for the slice f of a filter: refused with 1 for the sizes
+
+-- the slice of the parts a to p, for one of k numbers
+abbrev pub newIn : ℕ → ℕ → ℕ → ℕ → List Float → List Float → List Float → List Float → List Float → List Float → List Float → Answer (List Float)
+newIn n m i k a b h q r x p =
+    where-sized (isFilter n m i k && isParts n m i (length a) (length b) (length h) (length q) (length r) (length x) (length p))
+    (filterNumbers (modelOfRows n m i a b h q r) (estimate x (rows n n p)))
+
+-- the slice of the tracker at its start
+abbrev pub trackerIn : Float → Float → Float → ℕ → Answer (List Float)
+trackerIn t q r k = where-sized (eqb k 19) (filterNumbers (tracker t q r) atStart)
+
+-- f one step on, with the input u
+abbrev pub predictIn : ℕ → ℕ → ℕ → List Float → List Float → Answer (List Float)
+predictIn n m i f u = where-sized (isStep n m i (length f) i (length u)) (withEstimate n m i f (predict (modelIn n m i f) (estimateIn n m i f) u))
+
+-- f corrected by the measurement z, and the innovation, for one of k numbers; else refused as an update is
+abbrev pub correctedIn : ℕ → ℕ → ℕ → List Float → Correction → List Float × List Float
+correctedIn n m i f o = (withEstimate n m i f (o .estimate), o .innovation)
+
+abbrev pub updateIn : ℕ → ℕ → ℕ → List Float → List Float → ℕ → Answer (List Float × List Float)
+updateIn n m i f z k = if-sized (isStep n m i (length f) m (length z) && isVector m k) (mapped (correctedIn n m i f) (update (modelIn n m i f) (estimateIn n m i f) z))
+
+-- f with the state x and the covariance p
+abbrev pub resetIn : ℕ → ℕ → ℕ → List Float → List Float → List Float → Answer (List Float)
+resetIn n m i f x p = where-sized (isFilter n m i (length f) && (isVector n (length x) && isRows n n (length p))) (withEstimate n m i f (estimate x (rows n n p)))
+
+-- the state of f, and its covariance by rows, for a slice of k numbers
+abbrev pub stateIn : ℕ → ℕ → ℕ → List Float → ℕ → Answer (List Float)
+stateIn n m i f k = where-sized (isFilter n m i (length f) && isVector n k) (estimateIn n m i f .state)
+
+abbrev pub covarianceIn : ℕ → ℕ → ℕ → List Float → ℕ → Answer (List Float)
+covarianceIn n m i f k = where-sized (isFilter n m i (length f) && isRows n n k) (joined (estimateIn n m i f .covariance))
+
+-- ---- what an update of f finds with the measurement z, in the arrays of a step
+abbrev pub foundIn : ℕ → ℕ → ℕ → List Float → List Float → Found
+foundIn n m i f z = let e = estimateIn n m i f in foundOf (padRow (e .state)) (flat (e .covariance)) (update (modelIn n m i f) e z)

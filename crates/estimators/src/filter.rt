@@ -1,27 +1,25 @@
 // src/estimator/kalman.rs for C: a filter of state n, measurement m and input i is one slice that the caller lends: a,
 // b, h, q, r, x and p by rows, one after another. Refused with 1: a size, or a slice of another length.
 ghost use mathlib.Core.Path.{_≡_};
-ghost use mathlib.Core.Bool.{true, _&&_};
+ghost use mathlib.Core.Bool.{true};
 ghost use Prim.Native.Nat.{_+_, _*_, _≤_};
-ghost use lib.Dec.{eqb};
 ghost use lib.ListN.{length};
-ghost use Rattle.matrix.specs.Answer.{where-sized, if-sized};
 ghost use Rattle.matrix.specs.Array.{usedFlat};
 ghost use Rattle.matrix.specs.Result.{sized};
-ghost use Rattle.kalman_step.specs.Kalman.{predict, update, tracker, atStart};
-ghost use Rattle.kalman_step.specs.Step.{estimateIn as estimateHeld};
+ghost use Rattle.kalman_step.specs.Kalman.{predict};
+ghost use Rattle.kalman_step.specs.Step.{flat, estimateIn as estimateHeld, moved};
 ghost use Rattle.kalman.specs.Record.{modelOf, estimateOf, recordOf};
 ghost use Rattle.buffer.specs.Buffer.{matrixAt, joined, placed, left};
 ghost use Rattle.rts_smoother.specs.Buffer.{pairNumbers};
 ghost use Rattle.rts_smoother.specs.Record.{estimate};
-ghost use Rattle.estimators.specs.Slices.{isRows, isVector, rows, written, wrote};
-ghost use Rattle.estimators.specs.Filter.{estimateFrom, isFilter, isStep, isParts, modelIn, estimateIn, modelOfRows, filterNumbers, withEstimate, updatedIn};
-use crate::give_matrix;
-use crate::give_vector;
+ghost use Rattle.estimators.specs.Slices.{rows, written};
+ghost use Rattle.estimators.specs.Filter.{estimateFrom, isFilter, isStep, isParts, modelIn, estimateIn, modelOfRows, filterNumbers, foundIn, newIn, trackerIn, predictIn, updateIn, resetIn, stateIn, covarianceIn};
 use crate::is_combined;
 use crate::is_mapped;
 use crate::is_rows;
 use kalman::KalmanFilter;
+use kalman_step::Found;
+use kalman_step::Moved;
 use matrix::Status;
 use matrix::both;
 use matrix::kernel;
@@ -54,46 +52,53 @@ fn is_step(n: usize, m: usize, i: usize, len: usize, asked: usize, k: usize) -> 
     both(is_filter(n, m, i, len), k == asked)
 }
 
-// ---- between a slice and the filter's record
+// ---- a step's parts, read from a slice, and what it leaves there
 
 // The r rows of c numbers from number k on, flat.
 fn flat_in(f: &[f64], k: usize, r: usize, c: usize) -> [f64; 16]
     requires { ⌜ (sized r ≡ true) × (sized c ≡ true) × (k + r * c ≤ length (now f)) ⌝ }
-    ensures { λ v. ⌜ usedFlat r c v ≡ matrixAt r c (now (f .entry)) k ⌝ }
+    ensures { λ v. ⌜ v ≡ flat (matrixAt r c (now (f .entry)) k) ⌝ }
 {
     let m = buffer::matrix_at(f, k, r, c);
     kernel::to_flat(&m)
 }
 
-fn filter_in(f: &[f64], n: usize, m: usize, i: usize) -> KalmanFilter
-    requires { ⌜ isFilter n m i (length (now f)) ≡ true ⌝ }
-    ensures { λ k. ⌜ (modelOf k ≡ modelIn n m i (now (f .entry))) × (estimateOf k ≡ estimateIn n m i (now (f .entry))) ⌝ }
+// What a prediction finds with the input u.
+fn predicted_in(n: usize, m: usize, i: usize, f: &[f64], u: &[f64]) -> Moved
+    requires { ⌜ isStep n m i (length (now f)) i (length (now u)) ≡ true ⌝ }
+    ensures { λ v. ⌜ v ≡ moved (predict (modelIn n m i (now (f .entry))) (estimateIn n m i (now (f .entry))) (now (u .entry))) ⌝ }
 {
-    let h = n * n + n * i;
-    let q = h + m * n;
-    let x = estimate_from(n, m, i);
-    KalmanFilter {
-        n,
-        m,
-        i,
-        a: flat_in(f, 0, n, n),
-        b: flat_in(f, n * n, n, i),
-        h: flat_in(f, h, m, n),
-        q: flat_in(f, q, n, n),
-        r: flat_in(f, q + n * n, m, m),
-        x: buffer::vector_at(f, x, n),
-        p: flat_in(f, x + n, n, n),
-    }
+    let from = estimate_from(n, m, i);
+    let a = flat_in(f, 0, n, n);
+    let b = flat_in(f, n * n, n, i);
+    let q = flat_in(f, n * n + n * i + m * n, n, n);
+    let x = buffer::vector_at(f, from, n);
+    let p = flat_in(f, from + n, n, n);
+    let v = buffer::vector_at(u, 0, i);
+    kalman_step::predicted(&a, &b, &q, &x, &p, &v, n, m, i, i)
 }
 
-// The record's state and covariance from number k on; the model stays as it stands.
-fn put_estimate(f: &mut [f64], k: usize, n: usize, g: KalmanFilter)
-    requires { ⌜ (sized n ≡ true) × (k + (n + n * n) ≤ length (now f)) ⌝ }
-    ensures { λ u. ⌜ now (f .exit) ≡ placed k (pairNumbers (estimateHeld n (g .x) (g .p))) (now (f .entry)) ⌝ }
+// What an update finds with the measurement z.
+fn found_in(n: usize, m: usize, i: usize, f: &[f64], z: &[f64]) -> Found
+    requires { ⌜ isStep n m i (length (now f)) m (length (now z)) ≡ true ⌝ }
+    ensures { λ v. ⌜ v ≡ foundIn n m i (now (f .entry)) (now (z .entry)) ⌝ }
 {
-    let x = g.x;
-    let p = kernel::from_flat(&g.p);
-    buffer::put_pair(f, k, x, &p, n);
+    let from = estimate_from(n, m, i);
+    let h = flat_in(f, n * n + n * i, m, n);
+    let r = flat_in(f, n * n + n * i + m * n + n * n, m, m);
+    let x = buffer::vector_at(f, from, n);
+    let p = flat_in(f, from + n, n, n);
+    let v = buffer::vector_at(z, 0, m);
+    kalman_step::measured(&h, &p, &r, &x, &v, n, m, i, m)
+}
+
+// The state x and the covariance p, flat, from number k on; every other number stays.
+fn put_estimate(f: &mut [f64], k: usize, n: usize, x: [f64; 4], p: &[f64; 16])
+    requires { ⌜ (sized n ≡ true) × (k + (n + n * n) ≤ length (now f)) ⌝ }
+    ensures { λ u. ⌜ now (f .exit) ≡ placed k (pairNumbers (estimateHeld n x (now (p .entry)))) (now (f .entry)) ⌝ }
+{
+    let rows = kernel::from_flat(p);
+    buffer::put_pair(f, k, x, &rows, n);
 }
 
 // ---- the steps
@@ -101,14 +106,13 @@ fn put_estimate(f: &mut [f64], k: usize, n: usize, g: KalmanFilter)
 // One step on, with the input u of i numbers.
 #[no_mangle]
 pub extern "C" fn kalman_predict(n: usize, m: usize, i: usize, filter: &mut [f64], u: &[f64]) -> u8
-    ensures { λ t. ⌜ left t (now (filter .exit)) ≡ written (now (filter .entry)) (where-sized (isStep n m i (length (now (filter .entry))) i (length (now (u .entry)))) (withEstimate n m i (now (filter .entry)) (predict (modelIn n m i (now (filter .entry))) (estimateIn n m i (now (filter .entry))) (now (u .entry))))) ⌝ }
+    ensures { λ t. ⌜ left t (now (filter .exit)) ≡ written (now (filter .entry)) (predictIn n m i (now (filter .entry)) (now (u .entry))) ⌝ }
 {
     if is_step(n, m, i, filter.len(), i, u.len()) {
-        let f = filter_in(filter, n, m, i);
-        let v = buffer::vector_at(u, 0, i);
-        let s = f.predict(v, i);
-        let g = s.filter;
-        put_estimate(filter, estimate_from(n, m, i), n, g);
+        let next = predicted_in(n, m, i, filter, u);
+        let x = next.x;
+        let p = next.p;
+        put_estimate(filter, estimate_from(n, m, i), n, x, &p);
         0
     } else {
         1
@@ -126,22 +130,21 @@ pub extern "C" fn kalman_update(
     z: &[f64],
     innovation: &mut [f64],
 ) -> u8
-    ensures { λ t. ⌜ left t (now (filter .exit), now (innovation .exit)) ≡ updatedIn n m i (now (filter .entry)) (now (innovation .entry)) (if-sized (isStep n m i (length (now (filter .entry))) m (length (now (z .entry))) && isVector m (length (now (innovation .entry)))) (update (modelIn n m i (now (filter .entry))) (estimateIn n m i (now (filter .entry))) (now (z .entry)))) ⌝ }
+    ensures { λ t. ⌜ left t (now (filter .exit), now (innovation .exit)) ≡ written (now (filter .entry), now (innovation .entry)) (updateIn n m i (now (filter .entry)) (now (z .entry)) (length (now (innovation .entry)))) ⌝ }
 {
     if both(
         is_step(n, m, i, filter.len(), m, z.len()),
         is_rows(m, 1, innovation.len()),
     ) {
-        let f = filter_in(filter, n, m, i);
-        let v = buffer::vector_at(z, 0, m);
-        let s = f.update(v, m);
-        let answer = s.answer;
-        let g = s.filter;
+        let next = found_in(n, m, i, filter, z);
+        let x = next.x;
+        let p = next.p;
+        let answer = next.answer;
         let y = answer.cells;
         let status = answer.status;
         match status {
             Status::Done => {
-                put_estimate(filter, estimate_from(n, m, i), n, g);
+                put_estimate(filter, estimate_from(n, m, i), n, x, &p);
                 buffer::put_vector(innovation, 0, y, m);
                 0
             }
@@ -162,18 +165,15 @@ pub extern "C" fn kalman_reset(
     x0: &[f64],
     p0: &[f64],
 ) -> u8
-    ensures { λ t. ⌜ left t (now (filter .exit)) ≡ written (now (filter .entry)) (where-sized (isFilter n m i (length (now (filter .entry))) && (isVector n (length (now (x0 .entry))) && isRows n n (length (now (p0 .entry))))) (withEstimate n m i (now (filter .entry)) (estimate (now (x0 .entry)) (rows n n (now (p0 .entry)))))) ⌝ }
+    ensures { λ t. ⌜ left t (now (filter .exit)) ≡ written (now (filter .entry)) (resetIn n m i (now (filter .entry)) (now (x0 .entry)) (now (p0 .entry))) ⌝ }
 {
     if both(
         is_filter(n, m, i, filter.len()),
         is_mapped(n, 1, x0.len(), n, n, p0.len()),
     ) {
-        let f = filter_in(filter, n, m, i);
         let x = buffer::vector_at(x0, 0, n);
         let p = buffer::matrix_at(p0, 0, n, n);
-        let s = f.reset(x, p, n);
-        let g = s.filter;
-        put_estimate(filter, estimate_from(n, m, i), n, g);
+        buffer::put_pair(filter, estimate_from(n, m, i), x, &p, n);
         0
     } else {
         1
@@ -184,11 +184,12 @@ pub extern "C" fn kalman_reset(
 
 #[no_mangle]
 pub extern "C" fn kalman_state(n: usize, m: usize, i: usize, filter: &[f64], out: &mut [f64]) -> u8
-    ensures { λ t. ⌜ left t (now (out .exit)) ≡ written (now (out .entry)) (where-sized (isFilter n m i (length (now (filter .entry))) && isVector n (length (now (out .entry)))) (estimateIn n m i (now (filter .entry)) .state)) ⌝ }
+    ensures { λ t. ⌜ left t (now (out .exit)) ≡ written (now (out .entry)) (stateIn n m i (now (filter .entry)) (length (now (out .entry)))) ⌝ }
 {
     if both(is_filter(n, m, i, filter.len()), is_rows(n, 1, out.len())) {
-        let f = filter_in(filter, n, m, i);
-        give_vector(out, f.state(), n)
+        let x = buffer::vector_at(filter, estimate_from(n, m, i), n);
+        buffer::put_vector(out, 0, x, n);
+        0
     } else {
         1
     }
@@ -202,11 +203,12 @@ pub extern "C" fn kalman_covariance(
     filter: &[f64],
     out: &mut [f64],
 ) -> u8
-    ensures { λ t. ⌜ left t (now (out .exit)) ≡ wrote (now (out .entry)) (where-sized (isFilter n m i (length (now (filter .entry))) && isRows n n (length (now (out .entry)))) (estimateIn n m i (now (filter .entry)) .covariance)) ⌝ }
+    ensures { λ t. ⌜ left t (now (out .exit)) ≡ written (now (out .entry)) (covarianceIn n m i (now (filter .entry)) (length (now (out .entry)))) ⌝ }
 {
     if both(is_filter(n, m, i, filter.len()), is_rows(n, n, out.len())) {
-        let f = filter_in(filter, n, m, i);
-        give_matrix(out, f.covariance(), n, n)
+        let p = buffer::matrix_at(filter, estimate_from(n, m, i) + n, n, n);
+        buffer::put_matrix(out, 0, &p, n, n);
+        0
     } else {
         1
     }
@@ -230,14 +232,17 @@ fn put_filter(f: &mut [f64], g: KalmanFilter)
     let n = g.n;
     let m = g.m;
     let i = g.i;
-    let h = n * n + n * i;
+    let b = n * n;
+    let h = b + n * i;
     let q = h + m * n;
+    let r = q + n * n;
     put_flat(f, 0, &g.a, n, n);
-    put_flat(f, n * n, &g.b, n, i);
+    put_flat(f, b, &g.b, n, i);
     put_flat(f, h, &g.h, m, n);
     put_flat(f, q, &g.q, n, n);
-    put_flat(f, q + n * n, &g.r, m, m);
-    put_estimate(f, estimate_from(n, m, i), n, g);
+    put_flat(f, r, &g.r, m, m);
+    let x = g.x;
+    put_estimate(f, estimate_from(n, m, i), n, x, &g.p);
 }
 
 // The slices of the seven parts are right.
@@ -307,7 +312,7 @@ pub extern "C" fn kalman_new(
     p0: &[f64],
     filter: &mut [f64],
 ) -> u8
-    ensures { λ t. ⌜ left t (now (filter .exit)) ≡ written (now (filter .entry)) (where-sized (isFilter n m i (length (now (filter .entry))) && isParts n m i (length (now (a .entry))) (length (now (b .entry))) (length (now (h .entry))) (length (now (q .entry))) (length (now (r .entry))) (length (now (x0 .entry))) (length (now (p0 .entry)))) (filterNumbers (modelOfRows n m i (now (a .entry)) (now (b .entry)) (now (h .entry)) (now (q .entry)) (now (r .entry))) (estimate (now (x0 .entry)) (rows n n (now (p0 .entry)))))) ⌝ }
+    ensures { λ t. ⌜ left t (now (filter .exit)) ≡ written (now (filter .entry)) (newIn n m i (length (now (filter .entry))) (now (a .entry)) (now (b .entry)) (now (h .entry)) (now (q .entry)) (now (r .entry)) (now (x0 .entry)) (now (p0 .entry))) ⌝ }
 {
     if both(
         is_filter(n, m, i, filter.len()),
@@ -340,7 +345,7 @@ pub extern "C" fn kalman_position_velocity(
     measurement_noise: f64,
     filter: &mut [f64],
 ) -> u8
-    ensures { λ t. ⌜ left t (now (filter .exit)) ≡ written (now (filter .entry)) (where-sized (eqb (length (now (filter .entry))) 19) (filterNumbers (tracker dt «process_noise» «measurement_noise») atStart)) ⌝ }
+    ensures { λ t. ⌜ left t (now (filter .exit)) ≡ written (now (filter .entry)) (trackerIn dt «process_noise» «measurement_noise» (length (now (filter .entry)))) ⌝ }
 {
     if filter.len() == 19 {
         let g = KalmanFilter::position_velocity(dt, process_noise, measurement_noise);
