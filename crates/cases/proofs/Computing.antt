@@ -7,8 +7,8 @@ use Rattle.matrix.specs.Matrix as Matrix
 use Rattle.inverse.specs.Inverse as Inverse
 use Rattle.cholesky.specs.Cholesky as Cholesky
 use Rattle.kalman_step.specs.Kalman as Kalman
-use Rattle.rts_smoother.specs.Backward as Backward
-use Rattle.rts_smoother.specs.Smoother as Smoother
+use Rattle.smoothing.specs.Backward as Backward
+use Rattle.smoothing.specs.Smoother as Smoother
 
 unfoldable pub computing : ℕ
 unfolding Ieee.ofBits Ieee.toBits Ieee.round Ieee.add Ieee.sub Ieee.mul Ieee.div Ieee.lt Ieee.le

@@ -10,7 +10,7 @@ use Rattle.inverse.specs.Inverse.{limit, noPivot, pivotRow, inv}
 use Rattle.inverse.specs.Two.{oneByOne, twoByTwo}
 use Rattle.cholesky.specs.Cholesky.{choleskyOf}
 use Rattle.kalman_step.specs.Kalman.{Estimate, predict, update, tracker, atStart}
-use Rattle.rts_smoother.specs.Smoother.{Slot, Duty, smooth}
+use Rattle.smoothing.specs.Smoother.{Slot, Duty, smooth}
 use Rattle.cases.specs.Values.{−0, n0, n1, n2, n3, n4, n5, n9, n32, n300, n400, n768, n786, n4288, speed, speedVariance, −1, −2, ½, ¼, ¾, ⅓, −⅓, 1−⅓, least, rootOfLeast, √2, limitOfPivots, beforeLimit}
 
 -- state size 1, transition 1

@@ -11,7 +11,7 @@ use Rattle.matrix.specs.Answer.{Answer, mapped, refused-if, if-sized}
 use Rattle.matrix.specs.Matrix.{Matrix}
 use Rattle.matrix.specs.Result.{sized}
 use Rattle.buffer.specs.Buffer.{placed}
-use Rattle.rts_smoother.specs.Smoother.{smooth}
+use Rattle.smoothing.specs.Smoother.{smooth}
 use Rattle.rts_smoother.specs.Buffer.{pairLength, stride, dutyOf, outputOf, buffered}
 use Rattle.rts_smoother.specs.Record.{smoothable}
 

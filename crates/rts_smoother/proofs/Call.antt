@@ -11,16 +11,16 @@ use Rattle.matrix.specs.Answer.{Answer, refused, answered, mapped, if-sized}
 use Rattle.matrix.specs.Array.{used}
 use Rattle.matrix.proofs.Tables.{table-ext}
 use Rattle.kalman_step.specs.Kalman.{Estimate}
-use Rattle.rts_smoother.specs.Smoother.{smooth}
-use Rattle.rts_smoother.specs.Demand3.{Demand3}
+use Rattle.smoothing.specs.Smoother.{smooth}
+use Rattle.smoothing.specs.Demand3.{Demand3}
 use Rattle.rts_smoother.specs.Buffer.{pairLength, pairAt, outputOf, dutyOf}
 use Rattle.rts_smoother.specs.Record.{writtenIn}
 use Rattle.rts_smoother.specs.Call.{Call, duty, pairsOf, answerOf, run}
-use Rattle.rts_smoother.proofs.Backward.{Each}
+use Rattle.smoothing.proofs.Backward.{Each}
 use Rattle.rts_smoother.proofs.Records.{Paired}
 use Rattle.rts_smoother.proofs.Readings.{pairs-back}
 use Rattle.rts_smoother.proofs.Outputs.{smoothed-pairs, smoothed-count}
-use Rattle.rts_smoother.proofs.Demand3.{demand3-by}
+use Rattle.smoothing.proofs.Demand3.{demand3-by}
 
 -- the pairs that were written are read back
 written-back : (n T : ℕ) (r : List Estimate) → Each (Paired n) r → pairsOf n (length r) (outputOf n T r) ≡ r

@@ -1,6 +1,3 @@
-pub mod Backward
-pub mod Smoother
-pub mod Demand3
 pub mod Sizes
 pub mod Records
 pub mod Steps

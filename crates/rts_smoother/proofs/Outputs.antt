@@ -17,13 +17,13 @@ use Rattle.matrix.specs.Matrix.{Matrix}
 use Rattle.matrix.specs.Array.{used}
 use Rattle.kalman_step.specs.Kalman.{Estimate}
 use Rattle.matrix.proofs.Results.{done-not-refused}
-use Rattle.rts_smoother.specs.Backward.{pass}
-use Rattle.rts_smoother.specs.Smoother.{slotGain, move, smoothed, smooth}
+use Rattle.smoothing.specs.Backward.{pass}
+use Rattle.smoothing.specs.Smoother.{slotGain, move, smoothed, smooth}
 use Rattle.buffer.specs.Buffer.{joined, placed}
 use Rattle.rts_smoother.specs.Buffer.{pairLength, stride, slotAt, dutyOf, pairNumbers, outputOf}
 use Rattle.buffer.specs.Buffer.{left}
 use Rattle.rts_smoother.specs.Record.{statusOf, Passed, smoothable, writtenIn, smoothOf}
-use Rattle.rts_smoother.proofs.Backward.{Each, each-table, pass-each, pass-count}
+use Rattle.smoothing.proofs.Backward.{Each, each-table, pass-each, pass-count}
 use Rattle.rts_smoother.proofs.Sizes.{smoothable-of}
 use Rattle.rts_smoother.proofs.Records.{Paired, length-pair, slotted}
 use Rattle.rts_smoother.proofs.Passes.{slotsOf, paired-move}

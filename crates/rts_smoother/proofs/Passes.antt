@@ -20,12 +20,12 @@ use Rattle.matrix.proofs.Kernels.{shape-add}
 use Rattle.kalman_step.specs.Kalman.{Estimate}
 use Rattle.kalman_step.specs.Step.{estimateFrom}
 use Rattle.matrix.proofs.Results.{done-not-refused}
-use Rattle.rts_smoother.specs.Backward.{Results, listed, in-front, back, pass}
-use Rattle.rts_smoother.specs.Smoother.{Slot, slotGain, movedState, movedCovariance, move, smoothed}
+use Rattle.smoothing.specs.Backward.{Results, listed, in-front, back, pass}
+use Rattle.smoothing.specs.Smoother.{Slot, slotGain, movedState, movedCovariance, move, smoothed}
 use Rattle.buffer.specs.Buffer.{joined, placed}
 use Rattle.rts_smoother.specs.Buffer.{pairLength, stride, pairAt, slotFrom, slotAt, pairNumbers}
 use Rattle.rts_smoother.specs.Record.{statusOf, Stepped, Passed}
-use Rattle.rts_smoother.proofs.Backward.{back-step, back-stop, refused-from}
+use Rattle.smoothing.proofs.Backward.{back-step, back-stop, refused-from}
 use Rattle.buffer.proofs.Places.{ends-within, placed-none, placed-before}
 use Rattle.rts_smoother.proofs.Records.{Paired, length-pair, slotted}
 use Rattle.rts_smoother.proofs.Steps.{cut-of, used-of}

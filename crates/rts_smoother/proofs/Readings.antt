@@ -15,11 +15,11 @@ use Rattle.matrix.proofs.Tables.{table-ext, table-getD}
 use Rattle.matrix.proofs.Matrices.{mat-ext}
 use Rattle.matrix.proofs.Kernels.{used-all}
 use Rattle.kalman_step.specs.Kalman.{Estimate}
-use Rattle.rts_smoother.specs.Smoother.{Slot}
+use Rattle.smoothing.specs.Smoother.{Slot}
 use Rattle.buffer.specs.Buffer.{joined, placed}
 use Rattle.rts_smoother.specs.Buffer.{pairLength, stride, pairAt, slotFrom, slotAt, dutyOf, pairNumbers, slotNumbers}
 use Rattle.rts_smoother.specs.Record.{estimate}
-use Rattle.rts_smoother.proofs.Backward.{Each}
+use Rattle.smoothing.proofs.Backward.{Each}
 use Rattle.buffer.proofs.Places.{ends-within}
 use Rattle.rts_smoother.proofs.Records.{Paired, length-pair, Slotted}
 

@@ -24,7 +24,7 @@ use Rattle.kalman_step.specs.Step.{estimateFrom}
 use Rattle.rts_smoother.specs.declared.FilteredState.{FilteredState}
 use Rattle.rts_smoother.specs.declared.StateResult.{StateResult}
 use Rattle.rts_smoother.specs.declared.RtsSmoother.{RtsSmoother}
-use Rattle.rts_smoother.specs.Smoother.{Slot}
+use Rattle.smoothing.specs.Smoother.{Slot}
 use Rattle.buffer.specs.Buffer.{joined, placed, room}
 use Rattle.buffer.proofs.Calls.{pair-put}
 use Rattle.rts_smoother.specs.Buffer.{pairAt, slotFrom, pairLength, stride, pairNumbers, slotNumbers, buffered}

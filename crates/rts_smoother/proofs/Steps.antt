@@ -26,7 +26,7 @@ use Rattle.inverse.specs.Inverse.{inv}
 use Rattle.kalman_step.specs.Kalman.{gain}
 use Rattle.inverse.proofs.Laws.{was-answered, was-refused}
 use Rattle.kalman_step.proofs.Steps.{shape-gain}
-use Rattle.rts_smoother.specs.Smoother.{Slot, slotGain, movedState, movedCovariance}
+use Rattle.smoothing.specs.Smoother.{Slot, slotGain, movedState, movedCovariance}
 use Rattle.rts_smoother.specs.Buffer.{pairLength, stride, pairAt, slotFrom}
 use Rattle.rts_smoother.specs.Record.{statusOf, Stepped, stateMoved, covarianceMoved}
 use Rattle.rts_smoother.proofs.Records.{slotted}

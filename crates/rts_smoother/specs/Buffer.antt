@@ -11,7 +11,7 @@ use Rattle.matrix.specs.Matrix.{Matrix}
 use Rattle.matrix.specs.Result.{sized}
 use Rattle.buffer.specs.Buffer.{vectorAt, matrixAt, joined}
 use Rattle.kalman_step.specs.Kalman.{Estimate}
-use Rattle.rts_smoother.specs.Smoother.{Slot, Duty}
+use Rattle.smoothing.specs.Smoother.{Slot, Duty}
 
 -- how many numbers a pair takes, and a slot, which is two pairs
 abbrev pub pairLength : ℕ → ℕ

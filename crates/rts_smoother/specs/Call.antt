@@ -11,7 +11,7 @@ use Rattle.matrix.specs.Answer.{Answer, refused, answered}
 use Rattle.matrix.specs.Table.{table}
 use Rattle.matrix.specs.Array.{used}
 use Rattle.kalman_step.specs.Kalman.{Estimate}
-use Rattle.rts_smoother.specs.Smoother.{Duty}
+use Rattle.smoothing.specs.Smoother.{Duty}
 use Rattle.rts_smoother.specs.Buffer.{pairLength, pairAt, dutyOf}
 use Rattle.rts_smoother.specs.Record.{smoothable, smoothOf}
 

@@ -22,7 +22,7 @@ use Rattle.rts_smoother.specs.declared.RtsSmoother.{RtsSmoother}
 use Rattle.rts_smoother.specs.declared.Stored.{Stored}
 use Rattle.rts_smoother.specs.declared.CountResult.{CountResult}
 use Rattle.rts_smoother.specs.declared.CountResult.the-variants as Count
-use Rattle.rts_smoother.specs.Smoother.{Slot, slotGain, movedState, movedCovariance, smooth}
+use Rattle.smoothing.specs.Smoother.{Slot, slotGain, movedState, movedCovariance, smooth}
 use Rattle.buffer.specs.Buffer.{joined, placed, Left, left}
 use Rattle.rts_smoother.specs.Buffer.{pairLength, stride, dutyOf, pairNumbers, slotNumbers, outputOf, counted, buffered}
 

@@ -11,7 +11,7 @@ ghost use mathlib.Core.Bool.{true};
 ghost use Rattle.matrix.specs.Table.{table};
 ghost use Rattle.matrix.specs.Result.{sized};
 ghost use Rattle.kalman_step.specs.Kalman.{gain};
-ghost use Rattle.rts_smoother.specs.Smoother.{smoothed};
+ghost use Rattle.smoothing.specs.Smoother.{smoothed};
 use matrix::Status;
 use matrix::TestResult;
 use matrix::kernel;

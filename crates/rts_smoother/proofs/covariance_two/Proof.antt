@@ -3,7 +3,7 @@ use mathlib.Core.Path.{refl}
 use borrow.Author.Needs.{needs}
 use Rattle.matrix.specs.Matrix.{sumFrom, mul, transpose, add, sub}
 use Rattle.matrix.specs.Array.{cut, used, pad}
-use Rattle.rts_smoother.specs.Smoother.{movedCovariance}
+use Rattle.smoothing.specs.Smoother.{movedCovariance}
 use Rattle.rts_smoother.proofs.covariance_two.Statement.{statement}
 use Rattle.rts_smoother.proofs.covariance_two.Tie as tie
 

@@ -3,7 +3,7 @@ use mathlib.Core.Path.{refl}
 use borrow.Author.Needs.{needs}
 use Rattle.matrix.specs.Matrix.{sumFrom, matvec, vecAdd, vecSub}
 use Rattle.matrix.specs.Array.{cut, used}
-use Rattle.rts_smoother.specs.Smoother.{movedState}
+use Rattle.smoothing.specs.Smoother.{movedState}
 use Rattle.rts_smoother.proofs.state_two.Statement.{statement}
 use Rattle.rts_smoother.proofs.state_two.Tie as tie
 

@@ -5,7 +5,7 @@ use Rattle.matrix.specs.Answer.{Answer, mapped}
 use Rattle.matrix.specs.Matrix.{Vector, Matrix, mul, matvec, add, sub, transpose, vecAdd, vecSub}
 use Rattle.inverse.specs.Inverse.{inv}
 use Rattle.kalman_step.specs.Kalman.{Estimate, gain}
-use Rattle.rts_smoother.specs.Backward.{pass}
+use Rattle.smoothing.specs.Backward.{pass}
 
 -- a filtered pair, and the pair predicted for the next slot
 pub record Slot : Type 0 where

@@ -10,10 +10,10 @@ use Rattle.matrix.proofs.Answers.{same-refusal, same-answer, mapped-refused, re
 use Rattle.inverse.specs.Inverse.{inv}
 use Rattle.inverse.proofs.Laws.{inv-refused}
 use Rattle.kalman_step.specs.Kalman.{Estimate, gain}
-use Rattle.rts_smoother.specs.Backward.{back, pass, BeforeLast, this, later, Same}
-use Rattle.rts_smoother.specs.Smoother.{Slot, slotGain, movedCovariance, move}
-use Rattle.rts_smoother.specs.Demand3.{Rejected, Covariances, covariances, outcome}
-use Rattle.rts_smoother.proofs.Backward.{pass-tails, pass-count, pass-refused, refused-pass, same-pass, same-reaches, pass-parts, reaches, from-end}
+use Rattle.smoothing.specs.Backward.{back, pass, BeforeLast, this, later, Same}
+use Rattle.smoothing.specs.Smoother.{Slot, slotGain, movedCovariance, move}
+use Rattle.smoothing.specs.Demand3.{Rejected, Covariances, covariances, outcome}
+use Rattle.smoothing.proofs.Backward.{pass-tails, pass-count, pass-refused, refused-pass, same-pass, same-reaches, pass-parts, reaches, from-end}
 
 -- ---- a slot has no gain, and the number is 3, just where inversion rejects its predicted covariance
 module _ (n : ℕ) (F : Matrix) (s : Slot) where

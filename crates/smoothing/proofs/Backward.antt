@@ -6,7 +6,7 @@ use native.Mathlib.Nat.{le-of-suc-le-suc, not-suc-le-zero}
 use lib.ListN.{length, drop}
 use Rattle.matrix.specs.Table.{table}
 use Rattle.matrix.specs.Answer.{Answer, refused, answered, and-then, mapped}
-use Rattle.rts_smoother.specs.Backward.{Results, listed, in-front, back, pass, BeforeLast, this, later, Same, last, slot}
+use Rattle.smoothing.specs.Backward.{Results, listed, in-front, back, pass, BeforeLast, this, later, Same, last, slot}
 use Rattle.matrix.proofs.Answers.{differ, same-refusal, same-answer}
 
 -- one step back, whatever stands after it

@@ -5,9 +5,9 @@ use Prim.Native.Nat.{ℕ}
 use Rattle.matrix.specs.Answer.{Answer}
 use Rattle.matrix.specs.Matrix.{Matrix}
 use Rattle.kalman_step.specs.Kalman.{Estimate}
-use Rattle.rts_smoother.specs.Smoother.{Slot, Duty, smoothed, smooth}
-use Rattle.rts_smoother.specs.Demand3.{covariances, outcome, Demand3}
-use Rattle.rts_smoother.proofs.Smoother as Laws
+use Rattle.smoothing.specs.Smoother.{Slot, Duty, smoothed, smooth}
+use Rattle.smoothing.specs.Demand3.{covariances, outcome, Demand3}
+use Rattle.smoothing.proofs.Smoother as Laws
 
 self : Slot → Slot
 self s = s

@@ -8,8 +8,8 @@ use Rattle.matrix.specs.Answer.{Answer, refused, answered, mapped}
 use Rattle.matrix.specs.Matrix.{Matrix}
 use Rattle.inverse.specs.Inverse.{inv}
 use Rattle.kalman_step.specs.Kalman.{Estimate}
-use Rattle.rts_smoother.specs.Backward.{BeforeLast, Same}
-use Rattle.rts_smoother.specs.Smoother.{Slot, Duty}
+use Rattle.smoothing.specs.Backward.{BeforeLast, Same}
+use Rattle.smoothing.specs.Smoother.{Slot, Duty}
 
 -- inversion rejects the predicted covariance of slot s
 abbrev pub Rejected : ℕ → Slot → Type 0

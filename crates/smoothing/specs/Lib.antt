@@ -1,0 +1,3 @@
+pub mod Backward
+pub mod Smoother
+pub mod Demand3
