@@ -34,9 +34,9 @@ use Rattle.kalman_step.proofs.Steps.{well-sized, shape-propagated, length-innov
 use Rattle.kalman.specs.declared.KalmanFilter.{KalmanFilter}
 use Rattle.kalman.specs.declared.Stepped.{Stepped}
 use Rattle.kalman.specs.Record.{modelOf, modelFrom, estimateOf, recordOf, noFilter, newOf, stepped}
-use Rattle.rts_smoother.specs.Buffer.{pairAt, pairNumbers}
-use Rattle.rts_smoother.specs.Record.{estimate}
-use Rattle.rts_smoother.proofs.Records.{Paired, paired-at, length-pair, pair-placed}
+use Rattle.rts_pass.specs.Buffer.{pairAt, pairNumbers}
+use Rattle.rts_pass.specs.Pass.{estimate}
+use Rattle.rts_pass.proofs.Pairs.{Paired, paired-at, length-pair, pair-placed}
 use Rattle.estimators.specs.Slices.{isRows, rows, written}
 use Rattle.estimators.specs.Filter.{inputFrom, measuringFrom, processFrom, noiseFrom, estimateFrom, filterLength, isFilter, isStep, isParts, modelIn, estimateIn, modelOfRows, filterNumbers, withEstimate, correctedIn, foundIn}
 use Rattle.estimators.proofs.Ways.{Whole, whole-of, two-of, three-of, placed-whole}

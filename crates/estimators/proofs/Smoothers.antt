@@ -29,10 +29,11 @@ use Rattle.buffer.proofs.Calls.{vector-read, matrix-read}
 use Rattle.rts_smoother.specs.declared.FilteredState.{FilteredState}
 use Rattle.rts_smoother.specs.declared.StateResult.{StateResult}
 use Rattle.rts_smoother.specs.declared.Stored.{Stored}
-use Rattle.rts_smoother.specs.Buffer.{pairLength, stride, pairNumbers, slotNumbers, buffered}
-use Rattle.rts_smoother.specs.Record.{estimate, slotOf, slotOfRows, recordOf, stateResult, stateFrom, smoother, storable, storeForward, storedIn, storeOf, getStateRefusal, getState, writtenIn}
+use Rattle.rts_pass.specs.Buffer.{pairLength, stride, pairNumbers, slotNumbers, buffered}
+use Rattle.rts_pass.specs.Pass.{estimate, writtenIn}
+use Rattle.rts_smoother.specs.Record.{slotOf, slotOfRows, recordOf, stateResult, stateFrom, smoother, storable, storeForward, storedIn, storeOf, getStateRefusal, getState}
 use Rattle.rts_smoother.proofs.Records.{handed}
-use Rattle.rts_smoother.proofs.Sizes.{square-small}
+use Rattle.rts_pass.proofs.Sizes.{square-small}
 use Rattle.estimators.specs.Slices.{written}
 use Rattle.estimators.specs.Smoother.{numberOf, isPairs, storeIn, slotIn}
 use Rattle.estimators.proofs.Ways.{part-numbers}

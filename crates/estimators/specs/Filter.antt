@@ -11,8 +11,8 @@ use Rattle.buffer.specs.Buffer.{matrixAt, joined, placed}
 use Rattle.kalman_step.specs.declared.Found.{Found}
 use Rattle.kalman_step.specs.Kalman.{Model, Estimate, Correction, predict, update, tracker, atStart}
 use Rattle.kalman_step.specs.Step.{flat, wellSized, foundOf}
-use Rattle.rts_smoother.specs.Buffer.{pairLength, pairAt, pairNumbers}
-use Rattle.rts_smoother.specs.Record.{estimate}
+use Rattle.rts_pass.specs.Buffer.{pairLength, pairAt, pairNumbers}
+use Rattle.rts_pass.specs.Pass.{estimate}
 use Rattle.estimators.specs.Slices.{isRows, isVector, rows}
 
 -- ---- where the parts begin, for state n, measurement m and input i; a begins at 0

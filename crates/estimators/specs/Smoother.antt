@@ -12,8 +12,8 @@ use Rattle.matrix.specs.Matrix.{Matrix}
 use Rattle.matrix.specs.Result.{sized}
 use Rattle.buffer.specs.Buffer.{placed}
 use Rattle.smoothing.specs.Smoother.{smooth}
-use Rattle.rts_smoother.specs.Buffer.{pairLength, stride, dutyOf, outputOf, buffered}
-use Rattle.rts_smoother.specs.Record.{smoothable}
+use Rattle.rts_pass.specs.Buffer.{pairLength, stride, dutyOf, outputOf, buffered}
+use Rattle.rts_pass.specs.Pass.{smoothable}
 
 -- the number of a status
 abbrev pub numberOf : Status → ℕ

@@ -7,7 +7,7 @@ ghost use Prim.Native.Nat.{_≤_};
 ghost use lib.ListN.{length};
 ghost use Rattle.matrix.specs.Answer.{if-sized};
 ghost use Rattle.buffer.specs.Buffer.{left};
-ghost use Rattle.rts_smoother.specs.Buffer.{slotNumbers};
+ghost use Rattle.rts_pass.specs.Buffer.{slotNumbers};
 ghost use Rattle.rts_smoother.specs.Record.{slotOf};
 ghost use Rattle.estimators.specs.Slices.{isRows, rows, written};
 ghost use Rattle.estimators.specs.Smoother.{numberOf, isPairs, storeIn, slotIn, smoothIn};
@@ -126,7 +126,7 @@ pub extern "C" fn rts_smoother_smooth(
 {
     if is_rows(n, n, transition.len()) {
         let f = buffer::matrix_at(transition, 0, n, n);
-        number_of(rts_smoother::smooth(slots, n, room, count, f, output))
+        number_of(rts_pass::smooth(slots, n, room, count, f, output))
     } else {
         1
     }

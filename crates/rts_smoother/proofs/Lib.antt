@@ -1,7 +1,2 @@
-pub mod Sizes
 pub mod Records
-pub mod Steps
-pub mod Passes
-pub mod Outputs
-pub mod Readings
-pub mod Call
+pub mod Stores

@@ -1,69 +1,45 @@
--- Laws of the smoother's records: how long a pair's numbers are, what a slot's record holds, and the ways out of its methods. Assumes nothing.
+-- Laws of the smoother's records: what a slot's record holds, and the ways out of its methods. Assumes nothing.
 use mathlib.Core.Path.{_≡_, refl, sym, ap, ap₂, _∙_, subst, subst⁻¹}
-use mathlib.Core.Bool.{Bool, true, false, _&&_, cond}
+use mathlib.Core.Bool.{Bool, true, false, cond}
 use mathlib.Core.List.{List, _++_}
 use Prim.Native.Nat.{ℕ, _+_, _*_, _≤_, _<_}
 use native.Mathlib.Omega.{arith}
 use lib.Dec.{leb, ltb}
-use lib.ListN.{length, length-append}
+use lib.ListN.{length}
 use lib.Ieee.{Float}
-use borrow.Author.Tests.{ltb-true, lt-leb}
+use borrow.Author.Tests.{eqb-true, ltb-true, lt-leb}
+use Rattle.scalar.proofs.Choice.{and-left, and-right}
 use Rattle.matrix.specs.declared.Status.the-variants.{Done}
 use Rattle.matrix.specs.Answer.{answered, if-sized, refused-if}
-use Rattle.matrix.specs.Matrix.{Matrix, at}
+use Rattle.matrix.specs.Matrix.{Matrix}
 use Rattle.matrix.specs.Array.{cut, used, padRow, pad}
 use Rattle.matrix.specs.Kernel.{rowsOfFlat, flatOfRows}
 use Rattle.matrix.specs.Result.{sized, sizeOrFour}
-use Rattle.matrix.proofs.Tables.{length-table}
-use Rattle.matrix.proofs.Matrices.{Shape, shape-mat}
-use Rattle.matrix.proofs.Arrays.{length-cut, shape-used, kept-sized}
+use Rattle.matrix.proofs.Arrays.{kept-sized}
 use Rattle.matrix.proofs.Results.{Size, as-answered, sized-true}
 use Rattle.matrix.proofs.Kernels.{used-rowsOfFlat}
-use Rattle.kalman_step.specs.Kalman.{Estimate}
 use Rattle.kalman_step.specs.Step.{estimateFrom}
+use Rattle.buffer.specs.Buffer.{placed}
+use Rattle.buffer.proofs.Places.{ends-within, then-placed}
+use Rattle.rts_pass.specs.Buffer.{pairLength, stride, pairNumbers, slotNumbers, buffered}
+use Rattle.rts_pass.specs.Pass.{estimate}
+use Rattle.rts_pass.proofs.Sizes.{Buffered, buffered-of, buffer-small}
+use Rattle.rts_pass.proofs.Pairs.{length-pair, paired-used}
 use Rattle.rts_smoother.specs.declared.FilteredState.{FilteredState}
 use Rattle.rts_smoother.specs.declared.StateResult.{StateResult}
 use Rattle.rts_smoother.specs.declared.RtsSmoother.{RtsSmoother}
-use Rattle.smoothing.specs.Smoother.{Slot}
-use Rattle.buffer.specs.Buffer.{joined, placed, room}
-use Rattle.buffer.proofs.Calls.{pair-put}
-use Rattle.rts_smoother.specs.Buffer.{pairAt, slotFrom, pairLength, stride, pairNumbers, slotNumbers, buffered}
-use Rattle.rts_smoother.specs.Record.{estimate, slotOf, stateResult, stateFrom, recordOf, slotOfRows, storedIn, storable, storeOf, getStateRefusal}
-use Rattle.rts_smoother.proofs.Sizes.{buffered-of, storable-of, buffer-small}
-use Rattle.buffer.proofs.Places.{ends-within, length-rows, then-placed}
+use Rattle.rts_smoother.specs.Record.{slotOf, stateResult, stateFrom, recordOf, slotOfRows, storedIn, storable, storeOf, getStateRefusal}
 
--- ---- a pair of size n
-pub record Paired (n : ℕ) (e : Estimate) : Type 0 where
-  pub state : length (e .state) ≡ n
-  pub covariance : Shape n n (e .covariance)
+-- ---- what a test that was passed says: the buffer's sizes are right, and a slot has the smoother's
+pub record Storable (m n T c size : ℕ) : Type 0 where
+  pub buffer : Buffered m n T c
+  pub same : n ≡ size
 
-pub length-pair : {n : ℕ} {e : Estimate} → Paired n e → length (pairNumbers e) ≡ pairLength n
-unfolding pairNumbers
-length-pair {n} {e} p = length-append (e .state) _ ∙ ap₂ (λ (i j : ℕ). i + j) (p .state) (length-rows n n (e .covariance) (p .covariance))
+pub storable-of : (m n T c size : ℕ) → storable m n T c size ≡ true → Storable m n T c size
+unfolding storable
+storable-of m n T c size e = record { buffer = buffered-of m n T c (and-left _ _ e); same = eqb-true n size (and-right (buffered m n T c) _ e) }
 
-pub paired-used : (n : ℕ) (x : List Float) (p : List (List Float)) → Paired n (estimateFrom n x p)
-paired-used n x p = record { state = length-cut n x; covariance = shape-used n n p }
-
--- a slot of a buffer
-pub record Slotted (n : ℕ) (s : Slot) : Type 0 where
-  pub filtered : Paired n (s .filtered)
-  pub predicted : Paired n (s .predicted)
-
-pub paired-at : (n : ℕ) (b : List Float) (k : ℕ) → Paired n (pairAt n b k)
-unfolding pairAt
-paired-at n b k = record { state = length-table n (λ i. at b (k + i)); covariance = shape-mat n n (λ i j. at b (k + n + i * n + j)) }
-
-pub slotted : (n : ℕ) (b : List Float) (k : ℕ) → Slotted n (slotFrom n b k)
-unfolding slotFrom
-slotted n b k = record { filtered = paired-at n b k; predicted = paired-at n b (k + pairLength n) }
-
--- what `put_pair` leaves where n is a size and there is room
-pub pair-placed : {n : ℕ} (k : ℕ) (b x : List Float) (p : List (List Float)) {b₁ : List Float} → Size n → k + pairLength n ≤ length b
-    → b₁ ≡ cond (sized n && room k (pairLength n) (length b)) (placed k (cut n x ++ joined (used n n p)) b) b → b₁ ≡ placed k (pairNumbers (estimateFrom n x p)) b
-unfolding pairNumbers
-pair-placed k b x p N h q = pair-put k b x p N h q
-
--- the two pairs of a record, one after the other: p and q are its covariances as rows
+-- ---- the two pairs of a record, one after the other: p and q are its covariances as rows
 pub slot-placed : (s : FilteredState) (b : List Float) {k j : ℕ} {b₁ b₂ : List Float} {p q : List (List Float)} → s .n ≤ 4 → k ≤ length b → j ≡ k + pairLength (s .n)
     → p ≡ rowsOfFlat (s .p) → q ≡ rowsOfFlat (s .«p_pred»)
     → b₁ ≡ placed k (pairNumbers (estimateFrom (s .n) (s .x) p)) b

@@ -3,8 +3,9 @@ use Prim.Native.Nat.{_+_}
 use native.Mathlib.Omega.{arith}
 use borrow.Author.Needs.{needs}
 use Rattle.matrix.proofs.Results.{size-of}
-use Rattle.rts_smoother.specs.Buffer.{pairLength}
-use Rattle.rts_smoother.proofs.Records.{pair-placed, slot-placed}
+use Rattle.rts_pass.specs.Buffer.{pairLength}
+use Rattle.rts_pass.proofs.Pairs.{pair-placed}
+use Rattle.rts_smoother.proofs.Records.{slot-placed}
 use Rattle.rts_smoother.proofs.put_slot.Statement.{statement}
 use Rattle.rts_smoother.proofs.put_slot.Tie as tie
 

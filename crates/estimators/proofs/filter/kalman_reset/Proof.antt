@@ -8,9 +8,9 @@ use borrow.Author.Needs.{needs}
 use Rattle.scalar.proofs.Choice.{and-left, and-right}
 use Rattle.matrix.proofs.Results.{sized-true}
 use Rattle.buffer.specs.Buffer.{placed, left}
-use Rattle.rts_smoother.specs.Buffer.{pairNumbers}
-use Rattle.rts_smoother.specs.Record.{estimate}
-use Rattle.rts_smoother.proofs.Records.{pair-placed}
+use Rattle.rts_pass.specs.Buffer.{pairNumbers}
+use Rattle.rts_pass.specs.Pass.{estimate}
+use Rattle.rts_pass.proofs.Pairs.{pair-placed}
 use Rattle.estimators.specs.Slices.{isRows, written}
 use Rattle.estimators.specs.Filter.{isFilter}
 use Rattle.estimators.proofs.Ways.{two-of, rows-read, numbers-read, answers, refuses-where}

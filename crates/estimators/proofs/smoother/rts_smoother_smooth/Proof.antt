@@ -3,7 +3,7 @@ use mathlib.Core.Path.{sym, ap, _∙_}
 use lib.ListN.{length}
 use borrow.Author.Needs.{needs}
 use Rattle.matrix.specs.Matrix.{Matrix}
-use Rattle.rts_smoother.specs.Record.{smoothInto}
+use Rattle.rts_pass.specs.Pass.{smoothInto}
 use Rattle.estimators.specs.Slices.{written}
 use Rattle.estimators.specs.Smoother.{smoothIn}
 use Rattle.estimators.proofs.Ways.{whole-of, rows-read, if-true, refuses}

@@ -1,26 +1,28 @@
 -- `RtsSmoother::get_state` meets its contract: a slot that is not refused lies within the buffer.
-use mathlib.Core.Path.{refl, sym, _∙_}
+use mathlib.Core.Path.{_≡_, refl, sym, _∙_}
 use native.Mathlib.Nat.{add-sub-cancel-left}
 use native.Mathlib.Omega.{arith}
 use borrow.Author.Needs.{needs}
 use borrow.Author.Tests.{eq-eqb, ne-eqb}
+use Rattle.rts_pass.specs.Buffer.{stride}
+use Rattle.rts_pass.proofs.Sizes.{stride-is}
 use Rattle.rts_smoother.proofs.Records.{Handed, handed}
 use Rattle.rts_smoother.proofs.RtsSmoother.get_state.Statement.{statement}
 use Rattle.rts_smoother.proofs.RtsSmoother.get_state.Tie as tie
 
-stride-of-requires : tie.Need-stride-of-requires
-stride-of-requires c κs =
-    let a = c .before .before .before .args in
-    handed (a .self) (a .slots .now) (a .k) (sym (c .before .get-state-refusal .ensures) ∙ c .if1 .taken) refl .size .most
+stride-here : (c : tie.After-stride-of) → c .stride-of .result ≡ stride (c .before .before .before .before .args .self .n)
+stride-here c =
+    let a = c .before .before .before .before .args in
+    stride-is (handed (a .self) (a .slots .now) (a .k) (sym (c .before .before .get-state-refusal .ensures) ∙ c .before .if1 .taken) refl .size) (c .stride-of .ensures)
 
 within : (c : tie.After-stride-of) → let a = c .before .before .before .before .args in Handed (a .self) (a .slots .now) (a .k) (c .stride-of .result)
 within c =
     let a = c .before .before .before .before .args in
-    handed (a .self) (a .slots .now) (a .k) (sym (c .before .before .get-state-refusal .ensures) ∙ c .before .if1 .taken) (c .stride-of .ensures)
+    handed (a .self) (a .slots .now) (a .k) (sym (c .before .before .get-state-refusal .ensures) ∙ c .before .if1 .taken) (stride-here c)
 
 returns : tie.Need-returns
 returns c =
-    simp (eq-eqb _ _ (sym (c .before .before .before .get-state-refusal .ensures) ∙ c .before .before .if1 .taken), c .before .stride-of .ensures, add-sub-cancel-left)
+    simp (eq-eqb _ _ (sym (c .before .before .before .get-state-refusal .ensures) ∙ c .before .before .if1 .taken), stride-here (c .before), add-sub-cancel-left)
 
 returns-2 : tie.Need-returns-2
 returns-2 c = simp (ne-eqb _ _ (λ e. c .before .if1 .left (c .before .before .get-state-refusal .ensures ∙ e)))
@@ -30,7 +32,7 @@ get-state-spec =
     tie.close
     (tie.spec
     (λ c κs. search needs)
-    stride-of-requires
+    (λ c κs. search needs)
     (λ c. omega (arith, within c))
     (λ c. omega (arith, within c))
     (λ c. omega (arith, within c))

@@ -1,23 +1,24 @@
 -- `RtsSmoother::store_forward` meets its contract.
-use mathlib.Core.Path.{refl, sym, _∙_}
+use mathlib.Core.Path.{_≡_, refl, sym, _∙_}
 use native.Mathlib.Omega.{arith}
 use borrow.Author.Needs.{needs}
 use borrow.Author.Tests.{le-leb}
-use Rattle.rts_smoother.proofs.Sizes.{storable-of}
-use Rattle.rts_smoother.proofs.Records.{store-way, store-done, Fitting, fitting}
+use Rattle.rts_pass.specs.Buffer.{stride}
+use Rattle.rts_pass.proofs.Sizes.{stride-is}
+use Rattle.rts_smoother.proofs.Records.{storable-of, store-way, store-done, Fitting, fitting}
 use Rattle.rts_smoother.proofs.RtsSmoother.store_forward.Statement.{statement}
 use Rattle.rts_smoother.proofs.RtsSmoother.store_forward.Tie as tie
 
-stride-of-requires : tie.Need-stride-of-requires
-stride-of-requires c κs =
-    let t = c .before .before .before in
-    storable-of _ _ _ _ _ (sym (t .before .is-storable .ensures) ∙ t .if1 .taken) .buffer .sizes .size .most
+stride-here : (c : tie.After-stride-of) → c .stride-of .result ≡ stride (c .before .before .before .before .before .before .before .args .self .n)
+stride-here c =
+    let t = c .before .before .before .before in
+    stride-is (storable-of _ _ _ _ _ (sym (t .before .is-storable .ensures) ∙ t .if1 .taken) .buffer .sizes .size) (c .stride-of .ensures)
 
 within : (c : tie.After-stride-of) → let a = c .before .before .before .before .before .before .before .args in Fitting (a .self) (a .slots .now) (a .state) (c .stride-of .result)
 within c =
     let t = c .before .before .before .before in
     let a = t .before .before .before .args in
-    fitting (a .self) (a .slots .now) (a .state) (sym (t .before .is-storable .ensures) ∙ t .if1 .taken) (c .before .before .if2 .taken) (c .stride-of .ensures)
+    fitting (a .self) (a .slots .now) (a .state) (sym (t .before .is-storable .ensures) ∙ t .if1 .taken) (c .before .before .if2 .taken) (stride-here c)
 
 put-slot-requires : tie.Need-put-slot-requires
 put-slot-requires c κs = (within c .size, within c .ends)
@@ -27,7 +28,7 @@ returns c =
     let r = c .before .before .before in
     let t = r .before .before .before .before in
     let a = t .before .before .before .args in
-    store-done (a .self) (a .slots .now) (a .state) (sym (t .before .is-storable .ensures) ∙ t .if1 .taken) (r .before .before .if2 .taken) (r .stride-of .ensures)
+    store-done (a .self) (a .slots .now) (a .state) (sym (t .before .is-storable .ensures) ∙ t .if1 .taken) (r .before .before .if2 .taken) (stride-here r)
     (c .before .before .put-slot .ensures)
 
 returns-2 : tie.Need-returns-2
@@ -46,7 +47,7 @@ store-forward-spec =
     tie.close
     (tie.spec
     (λ c κs. search needs)
-    stride-of-requires
+    (λ c κs. search needs)
     (λ c. omega (arith, within c))
     put-slot-requires
     (λ c. search needs)

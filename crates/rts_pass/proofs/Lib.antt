@@ -1,0 +1,7 @@
+pub mod Sizes
+pub mod Pairs
+pub mod Steps
+pub mod Passes
+pub mod Outputs
+pub mod Readings
+pub mod Call

@@ -1,0 +1,12 @@
+-- `is_room` meets its contract.
+use Rattle.rts_pass.specs.Buffer.{roomy}
+use borrow.Author.Needs.{needs}
+use Rattle.rts_pass.proofs.is_room.Statement.{statement}
+use Rattle.rts_pass.proofs.is_room.Tie as tie
+
+returns : tie.Need-returns
+unfolding roomy
+returns c = cc
+
+pub is-room-spec : {M : Type 1} → statement M
+is-room-spec = tie.close (tie.spec (λ c κs. search needs) returns)
