@@ -28,14 +28,13 @@ use Rattle.buffer.proofs.Places.{then-placed, length-rows}
 use Rattle.buffer.proofs.Calls.{matrix-read, matrix-put}
 use Rattle.kalman_step.specs.declared.Moved.{Moved}
 use Rattle.kalman_step.specs.declared.Found.{Found}
-use Rattle.kalman_step.specs.Kalman.{Model, Estimate, Correction, propagated, corrected, predict, correction, update}
+use Rattle.kalman_step.specs.Kalman.{Model, Estimate, estimate, Correction, propagated, corrected, predict, correction, update}
 use Rattle.kalman_step.specs.Step.{flat, estimateIn as estimateHeld, estimateFrom as estimateRows, wellSized, fitting, moving, measuring, moved, movedOf, foundOf}
 use Rattle.kalman_step.proofs.Steps.{well-sized, shape-propagated, length-innovation}
 use Rattle.kalman.specs.declared.KalmanFilter.{KalmanFilter}
 use Rattle.kalman.specs.declared.Stepped.{Stepped}
 use Rattle.kalman.specs.Record.{modelOf, modelFrom, estimateOf, recordOf, noFilter, newOf, stepped}
 use Rattle.rts_pass.specs.Buffer.{pairAt, pairNumbers}
-use Rattle.rts_pass.specs.Pass.{estimate}
 use Rattle.rts_pass.proofs.Pairs.{Paired, paired-at, length-pair, pair-placed}
 use Rattle.estimators.specs.Slices.{isRows, rows, written}
 use Rattle.estimators.specs.Filter.{inputFrom, measuringFrom, processFrom, noiseFrom, estimateFrom, filterLength, isFilter, isStep, isParts, modelIn, estimateIn, modelOfRows, filterNumbers, withEstimate, correctedIn, foundIn}

@@ -22,7 +22,7 @@ use Rattle.matrix.proofs.Matrices.{shape-mat, mat-ext}
 use Rattle.matrix.proofs.Arrays.{length-cut, shape-used, used-pad, cut-padRow}
 use Rattle.matrix.proofs.Results.{Size, size-of, sized-true}
 use Rattle.matrix.proofs.Kernels.{usedFlat-pad}
-use Rattle.kalman_step.specs.Kalman.{Estimate}
+use Rattle.kalman_step.specs.Kalman.{Estimate, estimate}
 use Rattle.kalman_step.specs.Step.{estimateIn, estimateFrom}
 use Rattle.buffer.specs.Buffer.{vectorAt, matrixAt, joined, placed, room, Left, left}
 use Rattle.buffer.proofs.Calls.{vector-read, matrix-read}
@@ -30,7 +30,7 @@ use Rattle.rts_smoother.specs.declared.FilteredState.{FilteredState}
 use Rattle.rts_smoother.specs.declared.StateResult.{StateResult}
 use Rattle.rts_smoother.specs.declared.Stored.{Stored}
 use Rattle.rts_pass.specs.Buffer.{pairLength, stride, pairNumbers, slotNumbers, buffered}
-use Rattle.rts_pass.specs.Pass.{estimate, writtenIn}
+use Rattle.rts_pass.specs.Pass.{writtenIn}
 use Rattle.rts_smoother.specs.Record.{slotOf, slotOfRows, recordOf, stateResult, stateFrom, smoother, storable, storeForward, storedIn, storeOf, getStateRefusal, getState}
 use Rattle.rts_smoother.proofs.Records.{handed}
 use Rattle.rts_pass.proofs.Sizes.{square-small}

@@ -9,10 +9,9 @@ use Rattle.matrix.specs.Answer.{Answer, mapped, where-sized, if-sized}
 use Rattle.matrix.specs.Array.{padRow}
 use Rattle.buffer.specs.Buffer.{matrixAt, joined, placed}
 use Rattle.kalman_step.specs.declared.Found.{Found}
-use Rattle.kalman_step.specs.Kalman.{Model, Estimate, Correction, predict, update, tracker, atStart}
+use Rattle.kalman_step.specs.Kalman.{Model, Estimate, estimate, Correction, predict, update, tracker, atStart}
 use Rattle.kalman_step.specs.Step.{flat, wellSized, foundOf}
 use Rattle.rts_pass.specs.Buffer.{pairLength, pairAt, pairNumbers}
-use Rattle.rts_pass.specs.Pass.{estimate}
 use Rattle.estimators.specs.Slices.{isRows, isVector, rows}
 
 -- ---- where the parts begin, for state n, measurement m and input i; a begins at 0

@@ -23,6 +23,9 @@ pub record Estimate : Type 0 where
   pub state : Vector
   pub covariance : Matrix
 
+abbrev pub estimate : Vector → Matrix → Estimate
+estimate x P = record { state = x; covariance = P }
+
 -- ---- the parts
 
 -- A P Aᵀ + Q, for an A of r rows and n columns

@@ -12,7 +12,7 @@ use Rattle.matrix.specs.Kernel.{flatOfRows}
 use Rattle.matrix.specs.Result.{asVector, sized}
 use Rattle.kalman_step.specs.declared.Moved.{Moved}
 use Rattle.kalman_step.specs.declared.Found.{Found}
-use Rattle.kalman_step.specs.Kalman.{Model, Estimate, Correction}
+use Rattle.kalman_step.specs.Kalman.{Model, Estimate, estimate, Correction}
 
 -- ---- what the arrays hold
 
@@ -22,11 +22,11 @@ flat A = flatOfRows (pad A)
 
 -- the estimate of n states in a record's numbers x and p
 abbrev pub estimateIn : ℕ → List Float → List Float → Estimate
-estimateIn n x p = record { state = cut n x; covariance = usedFlat n n p }
+estimateIn n x p = estimate (cut n x) (usedFlat n n p)
 
 -- the same in arrays of rows
 abbrev pub estimateFrom : ℕ → List Float → List (List Float) → Estimate
-estimateFrom n x p = record { state = cut n x; covariance = used n n p }
+estimateFrom n x p = estimate (cut n x) (used n n p)
 
 -- ---- sizes
 

@@ -13,10 +13,9 @@ use Rattle.matrix.specs.Array.{cut, used}
 use Rattle.matrix.proofs.Tables.{table-ext, table-getD}
 use Rattle.matrix.proofs.Matrices.{mat-ext}
 use Rattle.matrix.proofs.Kernels.{used-all}
-use Rattle.kalman_step.specs.Kalman.{Estimate}
+use Rattle.kalman_step.specs.Kalman.{Estimate, estimate}
 use Rattle.buffer.specs.Buffer.{joined}
 use Rattle.rts_pass.specs.Buffer.{pairLength, pairAt, pairNumbers}
-use Rattle.rts_pass.specs.Pass.{estimate}
 use Rattle.smoothing.proofs.Backward.{Each}
 use Rattle.buffer.proofs.Places.{ends-within}
 use Rattle.rts_pass.proofs.Pairs.{Paired, length-pair}

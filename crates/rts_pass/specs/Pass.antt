@@ -11,7 +11,7 @@ use Rattle.matrix.specs.declared.Status.the-variants.{Done, Refused}
 use Rattle.matrix.specs.Answer.{Answer, refused, answered, mapped, if-sized}
 use Rattle.matrix.specs.Matrix.{Vector, Matrix}
 use Rattle.matrix.specs.Array.{cut, used, padRow, pad}
-use Rattle.kalman_step.specs.Kalman.{Estimate}
+use Rattle.kalman_step.specs.Kalman.{Estimate, estimate}
 use Rattle.buffer.specs.Buffer.{joined, placed, Left, left}
 use Rattle.smoothing.specs.Smoother.{Slot, slotGain, movedState, movedCovariance, smooth}
 use Rattle.rts_pass.specs.Buffer.{pairLength, dutyOf, pairNumbers, outputOf, buffered}
@@ -52,9 +52,6 @@ pub record Stepped (n : ℕ) (F : Matrix) (s : Slot) (x : List Float) (p : List 
   pub covariance : (G : Matrix) → slotGain n F s ≡ answered G → q ≡ pad (movedCovariance n s G (used n n p))
 
 -- its moved state and covariance, by the pairs that the slot holds: filtered x and P, predicted y and Q
-abbrev pub estimate : Vector → Matrix → Estimate
-estimate x P = record { state = x; covariance = P }
-
 abbrev pub stateMoved : ℕ → Vector → Vector → Matrix → Vector → Vector
 stateMoved n x y G next = movedState n (record { filtered = estimate x []; predicted = estimate y [] }) G next
 

@@ -22,7 +22,7 @@ use Rattle.kalman_step.specs.Step.{estimateFrom}
 use Rattle.buffer.specs.Buffer.{placed}
 use Rattle.buffer.proofs.Places.{ends-within, then-placed}
 use Rattle.rts_pass.specs.Buffer.{pairLength, stride, pairNumbers, slotNumbers, buffered}
-use Rattle.rts_pass.specs.Pass.{estimate}
+use Rattle.kalman_step.specs.Kalman.{estimate}
 use Rattle.rts_pass.proofs.Sizes.{Buffered, buffered-of, buffer-small}
 use Rattle.rts_pass.proofs.Pairs.{length-pair, paired-used}
 use Rattle.rts_smoother.specs.declared.FilteredState.{FilteredState}

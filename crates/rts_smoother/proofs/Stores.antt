@@ -15,7 +15,7 @@ use Rattle.buffer.specs.Buffer.{placed}
 use Rattle.buffer.proofs.Places.{ends-within}
 use Rattle.smoothing.specs.Smoother.{Slot}
 use Rattle.rts_pass.specs.Buffer.{pairLength, stride, pairAt, slotFrom, slotAt, dutyOf, pairNumbers, slotNumbers}
-use Rattle.rts_pass.specs.Pass.{estimate}
+use Rattle.kalman_step.specs.Kalman.{estimate}
 use Rattle.rts_pass.proofs.Pairs.{length-pair, Slotted}
 use Rattle.rts_pass.proofs.Readings.{pair-back}
 

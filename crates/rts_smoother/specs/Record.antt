@@ -16,7 +16,8 @@ use Rattle.kalman_step.specs.Step.{estimateIn, estimateFrom}
 use Rattle.buffer.specs.Buffer.{placed, Left, left}
 use Rattle.smoothing.specs.Smoother.{Slot}
 use Rattle.rts_pass.specs.Buffer.{stride, slotNumbers, counted, buffered}
-use Rattle.rts_pass.specs.Pass.{estimate, smoothInto, writtenIn}
+use Rattle.kalman_step.specs.Kalman.{estimate}
+use Rattle.rts_pass.specs.Pass.{smoothInto, writtenIn}
 use Rattle.rts_smoother.specs.declared.FilteredState.{FilteredState}
 use Rattle.rts_smoother.specs.declared.StateResult.{StateResult}
 use Rattle.rts_smoother.specs.declared.RtsSmoother.{RtsSmoother}

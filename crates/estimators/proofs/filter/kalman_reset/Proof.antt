@@ -9,7 +9,7 @@ use Rattle.scalar.proofs.Choice.{and-left, and-right}
 use Rattle.matrix.proofs.Results.{sized-true}
 use Rattle.buffer.specs.Buffer.{placed, left}
 use Rattle.rts_pass.specs.Buffer.{pairNumbers}
-use Rattle.rts_pass.specs.Pass.{estimate}
+use Rattle.kalman_step.specs.Kalman.{estimate}
 use Rattle.rts_pass.proofs.Pairs.{pair-placed}
 use Rattle.estimators.specs.Slices.{isRows, written}
 use Rattle.estimators.specs.Filter.{isFilter}
