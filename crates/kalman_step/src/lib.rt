@@ -1,5 +1,5 @@
-// One step of the linear Kalman filter on the parts of its record: what a prediction and an update find. The operations
-// and their order are those of src/estimator/kalman.rs; kernels behind references, and nothing in between is stored.
+// One step of the linear Kalman filter on the parts of its record: what a prediction and an update find, with the
+// operations and the order of src/estimator/kalman.rs. Rests on the kernels of matrix and on inverse.
 ghost use mathlib.Core.Path.{_≡_};
 ghost use mathlib.Core.Bool.{true};
 ghost use mathlib.Core.List.{[], _∷_};
