@@ -128,17 +128,9 @@ given-matrix : (r c : ℕ) (o : Answer Matrix) (b : List Float) → ((B : Matrix
 given-matrix r c (refused k) b s = refl
 given-matrix r c (answered B) b s = ap (λ (M : Matrix). left {R = ℕ} 0 (joined M)) (used-pad r c B (s B refl))
 
-given-vector : (n : ℕ) (o : Answer Vector) (b : List Float) → ((v : Vector) → o ≡ answered v → length v ≡ n) → givenVector n (asVector o) b ≡ written b o
-given-vector n (refused k) b s = refl
-given-vector n (answered v) b s = ap (left {R = ℕ} 0) (cut-padRow n v (s v refl))
-
 given-scalar : (o : Answer Float) (b : Float) → givenScalar (asScalar o) b ≡ written b o
 given-scalar (refused k) b = refl
 given-scalar (answered x) b = refl
-
-given-test : (o : Answer Bool) (b : Bool) → givenTest (asTest o) b ≡ written b o
-given-test (refused k) b = refl
-given-test (answered x) b = refl
 
 -- a result as it stands for its answer o
 pub matrix-told : {r c : ℕ} (o : Answer Matrix) (b : List Float) {m : MatrixResult} {l : Left ℕ (List Float)} → ((B : Matrix) → o ≡ answered B → Shape r c B)

@@ -1,5 +1,4 @@
 -- `predicted_in` meets its contract.
-use mathlib.Core.Path.{_∙_}
 use native.Mathlib.Omega.{arith}
 use lib.ListN.{length}
 use borrow.Author.Needs.{needs}

@@ -1,6 +1,5 @@
 -- `put_text` is safe and ends: the bytes that are left become fewer.
 use Prim.Native.Nat.{_-_}
-use native.Mathlib.Omega.{arith}
 use mathlib.Core.Path.{_≡_}
 use lib.ListN.{length}
 use borrow.Author.Needs.{needs}
