@@ -1,7 +1,7 @@
 // The library's functions by value behind C names, for compare/bench: whole arrays behind pointers, no slices to read
 // or to test. What is timed is the function that Rattle code calls.
 ghost use mathlib.Core.Path.{_≡_};
-ghost use Rattle.matrix.specs.Answer.{where-sized, if-sized};
+ghost use Rattle.answer.specs.Answer.{where-sized, if-sized};
 ghost use Rattle.matrix.specs.Matrix.{mul};
 ghost use Rattle.matrix.specs.Array.{used};
 ghost use Rattle.matrix.specs.Result.{sized, chained, asMatrix};

@@ -6,8 +6,8 @@ use Prim.Native.Nat.{ℕ, _+_, _*_, _≤_}
 use lib.ListN.{length}
 use lib.Ieee.{Float}
 use borrow.Author.Tests.{leb-true, le-leb}
-use Rattle.scalar.proofs.Choice.{and-left, and-right, cond-true}
-use Rattle.matrix.specs.Answer.{where-sized}
+use Rattle.answer.proofs.Choice.{and-left, and-right, cond-true}
+use Rattle.answer.specs.Answer.{where-sized}
 use Rattle.matrix.specs.Array.{cut, used, padRow, pad}
 use Rattle.matrix.specs.Result.{sized, shaped}
 use Rattle.matrix.specs.Kernel.{rowsOf, cellsOf}

@@ -11,10 +11,10 @@ use native.Mathlib.Omega.{arith}
 use lib.ListN.{length-set, length, set, take, drop, length-append, length-take, length-drop, take-append-drop}
 use lib.Seq.{take-all, take-suc, take-suc-set, append-snoc, set-split, take-at, drop-at, drop-drop, length-take-le, take-take, take-append-le}
 use lib.Ieee.{Float, nan}
-use Rattle.matrix.specs.Table.{table}
+use Rattle.answer.specs.Table.{table}
 use Rattle.matrix.specs.Matrix.{Matrix, at, row}
 use Rattle.matrix.specs.Array.{cut, padRow}
-use Rattle.matrix.proofs.Tables.{table-getD}
+use Rattle.answer.proofs.Tables.{table-getD}
 use Rattle.matrix.proofs.Matrices.{Shape}
 use Rattle.buffer.specs.Buffer.{vectorAt, joined, placed, room}
 

@@ -6,7 +6,7 @@ ghost use mathlib.Core.List.{_++_};
 ghost use Prim.Native.Nat.{_+_, _*_, _≤_};
 ghost use lib.Dec.{leb};
 ghost use lib.ListN.{length, take};
-ghost use Rattle.matrix.specs.Answer.{where-sized};
+ghost use Rattle.answer.specs.Answer.{where-sized};
 ghost use Rattle.matrix.specs.Array.{cut, used, padRow, pad};
 ghost use Rattle.matrix.specs.Result.{sized, shaped};
 ghost use Rattle.matrix.specs.Kernel.{rowsOf, cellsOf};

@@ -4,7 +4,7 @@ use mathlib.Core.Bool.{true, false}
 use mathlib.Core.List.{List, [], _∷_, map}
 use lib.Ieee.{Float, binary64, nan, toBits}
 use Rattle.root.specs.Root.{root}
-use Rattle.matrix.specs.Answer.{refused, answered}
+use Rattle.answer.specs.Answer.{refused, answered}
 use Rattle.matrix.specs.Matrix.{mul}
 use Rattle.inverse.specs.Inverse.{limit, noPivot, pivotRow, inv}
 use Rattle.inverse.specs.Two.{oneByOne, twoByTwo}

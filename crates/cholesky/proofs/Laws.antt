@@ -9,13 +9,13 @@ use lib.ListN.{length, length-append}
 use lib.Ieee.{Float}
 use Rattle.root.specs.Root.{root}
 use Rattle.scalar.specs.Number.{_⊖_, _⊘_, +0}
-use Rattle.matrix.specs.Answer.{refused, answered, and-then, mapped}
-use Rattle.matrix.specs.Table.{padTo}
+use Rattle.answer.specs.Answer.{refused, answered, and-then, mapped}
+use Rattle.answer.specs.Table.{padTo}
 use Rattle.matrix.specs.Matrix.{Vector, Matrix, at, row, cell, dot}
 use Rattle.matrix.specs.Array.{used}
-use Rattle.matrix.proofs.Tables.{length-padTo}
+use Rattle.answer.proofs.Tables.{length-padTo}
 use Rattle.matrix.proofs.Matrices.{Shape}
-use Rattle.matrix.proofs.Answers.{Told, result, number-of, result-of, told-if, told-then, told-mapped}
+use Rattle.answer.proofs.Answers.{Told, result, number-of, result-of, told-if, told-then, told-mapped}
 use Rattle.matrix.proofs.Arrays.{cell-used}
 use Rattle.matrix.proofs.Vectors.{dot-ext}
 use Rattle.cholesky.specs.Cholesky.{noDiagonal, diagonalOf, leftCells, factorRow, factorRows, choleskyOf}

@@ -8,11 +8,11 @@ use native.Mathlib.Omega.{arith}
 use lib.ListN.{length, set, replicate, length-append}
 use lib.Ieee.{Float, nan}
 use Rattle.scalar.specs.Number.{_⊖_, _⊘_, +0}
-use Rattle.matrix.specs.Answer.{Answer, refused, answered, and-then, mapped}
-use Rattle.matrix.specs.Table.{padTo}
+use Rattle.answer.specs.Answer.{Answer, refused, answered, and-then, mapped}
+use Rattle.answer.specs.Table.{padTo}
 use Rattle.matrix.specs.Matrix.{Vector, Matrix, at, row, cell, dot}
 use Rattle.matrix.specs.Array.{padRow, pad}
-use Rattle.matrix.proofs.Tables.{getD-padTo}
+use Rattle.answer.proofs.Tables.{getD-padTo}
 use Rattle.matrix.proofs.Matrices.{Shape}
 use Rattle.matrix.proofs.Vectors.{dot-ext}
 use Rattle.cholesky.specs.Cholesky.{diagonalOf, leftCells, factorRow, factorRows, choleskyOf}

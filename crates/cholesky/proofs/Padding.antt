@@ -8,7 +8,7 @@ use native.Mathlib.Numerals.{add-one}
 use lib.ListN.{length, set, replicate, length-map, length-append, List·getD-append}
 use lib.Seq.{getD-at}
 use Rattle.scalar.specs.Number.{+0}
-use Rattle.matrix.specs.Table.{padTo}
+use Rattle.answer.specs.Table.{padTo}
 use Rattle.matrix.specs.Matrix.{Vector, Matrix, cell}
 use Rattle.matrix.specs.Array.{padRow, pad}
 use Rattle.matrix.proofs.Matrices.{Shape}

@@ -6,8 +6,8 @@ use mathlib.Core.List.{[], _∷_, _++_}
 use lib.Ieee.{Float, le}
 use Rattle.root.specs.Root.{root}
 use Rattle.scalar.specs.Number.{_⊖_, _⊘_, +0}
-use Rattle.matrix.specs.Answer.{Answer, answered, and-then, mapped, refused-if}
-use Rattle.matrix.specs.Table.{padTo}
+use Rattle.answer.specs.Answer.{Answer, answered, and-then, mapped, refused-if}
+use Rattle.answer.specs.Table.{padTo}
 use Rattle.matrix.specs.Matrix.{Vector, Matrix, at, row, cell, dot}
 
 -- a diagonal is refused: at or below zero, so a NaN passes

@@ -1,13 +1,13 @@
 // `cholesky` of src/core/matrix.rs at f64: the lower triangle l with l × transposed l = a. Only the
 // lower triangle of a is read.
+use answer::Status;
 use matrix::MatrixResult;
 use matrix::ScalarResult;
-use matrix::Status;
 use matrix::kernel;
 use scalar::ControlScalar;
 ghost use mathlib.Core.Path.{_≡_};
 ghost use Prim.Native.Nat.{_≤_, _<_};
-ghost use Rattle.matrix.specs.Answer.{if-sized};
+ghost use Rattle.answer.specs.Answer.{if-sized};
 ghost use Rattle.matrix.specs.Matrix.{row};
 ghost use Rattle.matrix.specs.Array.{used, padRow};
 ghost use Rattle.matrix.specs.Result.{asMatrix, asScalar, sized};

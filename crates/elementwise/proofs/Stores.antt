@@ -9,11 +9,11 @@ use borrow.Author.Tests.{eqb-true}
 use lib.ListN.{set, drop, replicate}
 use lib.Ieee.{Float}
 use Rattle.scalar.specs.Number.{+0}
-use Rattle.matrix.specs.Table.{table, padTo}
+use Rattle.answer.specs.Table.{table, padTo}
 use Rattle.matrix.specs.Matrix.{Vector, row, cell, mat}
 use Rattle.matrix.specs.Matrix as Spec
 use Rattle.matrix.specs.Array.{cut, used, padRow, pad}
-use Rattle.matrix.proofs.Tables.{length-table, getD-table, table-ext, getD-padTo, filled-pad}
+use Rattle.answer.proofs.Tables.{length-table, getD-table, table-ext, getD-padTo, filled-pad}
 use Rattle.matrix.proofs.Matrices.{mat-ext}
 use Rattle.matrix.proofs.Arrays.{cell-used, pad-rows}
 

@@ -1,8 +1,8 @@
 // src/core/matrix.rs at f64, the functions cell by cell: matrices of at most 4 rows and 4 columns as arrays of
 // arrays by value, with the used sizes beside them. Cells outside are ignored on entry and +0 in a result.
+use answer::Status;
 use matrix::MatrixResult;
 use matrix::ScalarResult;
-use matrix::Status;
 use matrix::TestResult;
 use matrix::is_alike;
 use matrix::is_inside;
@@ -17,7 +17,7 @@ ghost use mathlib.Core.Path.{_≡_};
 ghost use Prim.Native.Nat.{_≤_, _<_};
 ghost use lib.Ieee.{eq};
 ghost use Rattle.scalar.specs.Number.{_⊗_};
-ghost use Rattle.matrix.specs.Answer.{where-sized};
+ghost use Rattle.answer.specs.Answer.{where-sized};
 ghost use Rattle.matrix.specs.Matrix.{cell, zeros, filled, identity, transpose, add, sub, scale, negated};
 ghost use Rattle.matrix.specs.Matrix.{set, sumFrom, squares, frobNorm, trace, every, equal};
 ghost use Rattle.matrix.specs.Array.{used, pad, usedFlat};

@@ -8,15 +8,15 @@ use native.Mathlib.Omega.{arith}
 use lib.ListN.{length, length-append}
 use lib.Ieee.{Float}
 use borrow.Author.Tests.{eqb-true, eq-eqb}
-use Rattle.scalar.proofs.Choice.{and-left, and-right}
-use Rattle.matrix.specs.declared.Status.{Status}
-use Rattle.matrix.specs.declared.Status.the-variants.{Done, Refused}
-use Rattle.matrix.specs.Answer.{Answer, refused, answered, mapped, where-sized, if-sized}
+use Rattle.answer.proofs.Choice.{and-left, and-right}
+use Rattle.answer.specs.declared.Status.{Status}
+use Rattle.answer.specs.declared.Status.the-variants.{Done, Refused}
+use Rattle.answer.specs.Answer.{Answer, refused, answered, mapped, where-sized, if-sized}
 use Rattle.matrix.specs.Matrix.{Vector, Matrix}
 use Rattle.matrix.specs.Array.{cut, used, usedFlat, padRow}
 use Rattle.matrix.specs.Result.{sized, shaped}
 use Rattle.matrix.specs.Kernel.{rowsOf, rowsOfFlat, flatOfRows}
-use Rattle.matrix.proofs.Answers.{differ, same-answer}
+use Rattle.answer.proofs.Answers.{differ, same-answer}
 use Rattle.matrix.proofs.Matrices.{Shape, shape-mat, shape-mul}
 use Rattle.matrix.proofs.Vectors.{length-vecAdd}
 use Rattle.matrix.proofs.Arrays.{length-cut, cut-padRow}

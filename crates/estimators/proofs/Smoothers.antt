@@ -10,14 +10,14 @@ use lib.ListN.{length, take, drop, length-drop}
 use lib.Seq.{length-take-le, take-add, take-all, drop-drop}
 use lib.Ieee.{Float}
 use borrow.Author.Tests.{ltb-true, ltb-false, le-leb, lt-leb, eqb-true, eq-eqb}
-use Rattle.scalar.proofs.Choice.{and-left, and-right, cond-true}
-use Rattle.matrix.specs.declared.Status.{Status}
-use Rattle.matrix.specs.Answer.{Answer, refused, answered, mapped, where-sized, if-sized, refused-if}
+use Rattle.answer.proofs.Choice.{and-left, and-right, cond-true}
+use Rattle.answer.specs.declared.Status.{Status}
+use Rattle.answer.specs.Answer.{Answer, refused, answered, mapped, where-sized, if-sized, refused-if}
 use Rattle.matrix.specs.Matrix.{Matrix, at}
 use Rattle.matrix.specs.Array.{cut, used, padRow, pad}
 use Rattle.matrix.specs.Kernel.{rowsOf, cellsOf, flatOfRows}
 use Rattle.matrix.specs.Result.{sized, shaped}
-use Rattle.matrix.proofs.Tables.{length-table, table-ext}
+use Rattle.answer.proofs.Tables.{length-table, table-ext}
 use Rattle.matrix.proofs.Matrices.{shape-mat, mat-ext}
 use Rattle.matrix.proofs.Arrays.{length-cut, shape-used, used-pad, cut-padRow}
 use Rattle.matrix.proofs.Results.{Size, size-of, sized-true}

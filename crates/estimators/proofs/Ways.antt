@@ -9,21 +9,21 @@ use lib.ListN.{length, take, drop, length-drop}
 use lib.Seq.{length-take-le, getD-take, getD-drop, take-all, drop-length}
 use lib.Ieee.{Float, nan}
 use borrow.Author.Tests.{eqb-true, eq-eqb}
-use Rattle.scalar.proofs.Choice.{and-left, and-right}
-use Rattle.matrix.specs.declared.Status.{Status}
-use Rattle.matrix.specs.declared.Status.the-variants.{Done}
+use Rattle.answer.proofs.Choice.{and-left, and-right}
+use Rattle.answer.specs.declared.Status.{Status}
+use Rattle.answer.specs.declared.Status.the-variants.{Done}
 use Rattle.matrix.specs.declared.MatrixResult.{MatrixResult}
 use Rattle.matrix.specs.declared.VectorResult.{VectorResult}
 use Rattle.matrix.specs.declared.ScalarResult.{ScalarResult}
 use Rattle.matrix.specs.declared.TestResult.{TestResult}
-use Rattle.matrix.specs.Answer.{Answer, refused, answered, where-sized, if-sized}
+use Rattle.answer.specs.Answer.{Answer, refused, answered, where-sized, if-sized}
 use Rattle.matrix.specs.Matrix.{Vector, Matrix, at}
 use Rattle.matrix.specs.Array.{cut, used, padRow}
 use Rattle.matrix.specs.Result.{sized, shaped, alike, asMatrix, asVector, asScalar, asTest}
 use Rattle.matrix.specs.Kernel.{rowsOf, cellsOf, paired, applicable}
-use Rattle.matrix.specs.Table.{table}
-use Rattle.matrix.proofs.Answers.{differ, same-answer}
-use Rattle.matrix.proofs.Tables.{table-ext, table-getD, length-table}
+use Rattle.answer.specs.Table.{table}
+use Rattle.answer.proofs.Answers.{differ, same-answer}
+use Rattle.answer.proofs.Tables.{table-ext, table-getD, length-table}
 use Rattle.matrix.proofs.Matrices.{Shape, shape-mat}
 use Rattle.matrix.proofs.Arrays.{length-cut, shape-used, used-pad, cut-padRow}
 use Rattle.matrix.proofs.Results.{Size, size, Sizes, sizes-of, sized-true, shaped-true}

@@ -5,7 +5,7 @@ use mathlib.Core.Bool.{Bool, _&&_}
 use lib.Dec.{eqb}
 use lib.ListN.{length}
 use lib.Ieee.{Float}
-use Rattle.matrix.specs.Answer.{Answer, mapped, where-sized, if-sized}
+use Rattle.answer.specs.Answer.{Answer, mapped, where-sized, if-sized}
 use Rattle.matrix.specs.Array.{padRow}
 use Rattle.buffer.specs.Buffer.{matrixAt, joined, placed}
 use Rattle.kalman_step.specs.declared.Found.{Found}

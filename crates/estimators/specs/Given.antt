@@ -3,15 +3,15 @@ use Prim.Native.Nat.{ℕ}
 use mathlib.Core.List.{List}
 use mathlib.Core.Bool.{Bool}
 use lib.Ieee.{Float}
-use Rattle.matrix.specs.declared.Status.{Status}
-use Rattle.matrix.specs.declared.Status.the-variants.{Done, Refused}
+use Rattle.answer.specs.declared.Status.{Status}
+use Rattle.answer.specs.declared.Status.the-variants.{Done, Refused}
 use Rattle.matrix.specs.declared.MatrixResult.{MatrixResult}
 use Rattle.matrix.specs.declared.VectorResult.{VectorResult}
 use Rattle.matrix.specs.declared.ScalarResult.{ScalarResult}
 use Rattle.matrix.specs.declared.ScalarResult.the-variants as Scalar
 use Rattle.matrix.specs.declared.TestResult.{TestResult}
 use Rattle.matrix.specs.declared.TestResult.the-variants as Test
-use Rattle.matrix.specs.Answer.{Answer, refused, answered}
+use Rattle.answer.specs.Answer.{Answer, refused, answered}
 use Rattle.matrix.specs.Array.{cut, used}
 use Rattle.buffer.specs.Buffer.{joined, Left}
 use Rattle.estimators.specs.Slices.{written}

@@ -5,7 +5,7 @@ use mathlib.Core.Bool.{Bool, _&&_}
 use lib.Dec.{eqb}
 use lib.Ieee.{Float}
 use Rattle.scalar.specs.Number.{+0, one, two, half, π, epsilon}
-use Rattle.matrix.specs.Answer.{Answer, refused, answered, mapped}
+use Rattle.answer.specs.Answer.{Answer, refused, answered, mapped}
 use Rattle.matrix.specs.Matrix.{Matrix}
 use Rattle.matrix.specs.Result.{shaped}
 use Rattle.buffer.specs.Buffer.{matrixAt, joined, Left, left}

@@ -5,9 +5,9 @@ use mathlib.Core.Bool.{Bool, _&&_}
 use lib.Dec.{leb, eqb}
 use lib.ListN.{length, take, drop}
 use lib.Ieee.{Float}
-use Rattle.matrix.specs.declared.Status.{Status}
-use Rattle.matrix.specs.declared.Status.the-variants.{Done, Refused}
-use Rattle.matrix.specs.Answer.{Answer, mapped, refused-if, if-sized}
+use Rattle.answer.specs.declared.Status.{Status}
+use Rattle.answer.specs.declared.Status.the-variants.{Done, Refused}
+use Rattle.answer.specs.Answer.{Answer, mapped, refused-if, if-sized}
 use Rattle.matrix.specs.Matrix.{Matrix}
 use Rattle.matrix.specs.Result.{sized}
 use Rattle.buffer.specs.Buffer.{placed}

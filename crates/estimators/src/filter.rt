@@ -16,10 +16,10 @@ ghost use Rattle.estimators.specs.Filter.{estimateFrom, isFilter, isStep
 use crate::is_combined;
 use crate::is_mapped;
 use crate::is_rows;
+use answer::Status;
 use kalman::KalmanFilter;
 use kalman_step::Found;
 use kalman_step::Moved;
-use matrix::Status;
 use matrix::both;
 use matrix::kernel;
 

@@ -6,9 +6,9 @@ ghost use lib.ListN.{length};
 ghost use Rattle.buffer.specs.Buffer.{left};
 ghost use Rattle.estimators.specs.Slices.{isRows, isVector};
 ghost use Rattle.estimators.specs.Given.{givenMatrix, givenVector, givenScalar, givenTest};
+use answer::Status;
 use matrix::MatrixResult;
 use matrix::ScalarResult;
-use matrix::Status;
 use matrix::TestResult;
 use matrix::VectorResult;
 

@@ -3,7 +3,7 @@
 ghost use mathlib.Core.Path.{_≡_};
 ghost use mathlib.Core.Bool.{_&&_};
 ghost use lib.ListN.{length};
-ghost use Rattle.matrix.specs.Answer.{where-sized, if-sized};
+ghost use Rattle.answer.specs.Answer.{where-sized, if-sized};
 ghost use Rattle.matrix.specs.Matrix.{cell, zeros, filled, identity, set, transpose, scale, negated, frobNorm, trace, add, sub, equal, mul, matvec, outer, vecAdd, vecSub, vecScale, dot, vecNorm};
 ghost use Rattle.matrix.specs.Result.{inside};
 ghost use Rattle.inverse.specs.Inverse.{inv};

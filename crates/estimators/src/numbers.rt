@@ -4,7 +4,7 @@ ghost use lib.Dec.{eqb};
 ghost use lib.ListN.{length};
 ghost use Rattle.root.specs.Root.{root as rootOf};
 ghost use Rattle.scalar.specs.Number.{abs, clamp, saturated, ofWhole};
-ghost use Rattle.matrix.specs.Answer.{where-sized};
+ghost use Rattle.answer.specs.Answer.{where-sized};
 ghost use Rattle.buffer.specs.Buffer.{left};
 ghost use Rattle.estimators.specs.Slices.{constantNumbers, written};
 use scalar::ControlScalar;

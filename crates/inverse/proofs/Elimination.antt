@@ -9,20 +9,20 @@ use native.Mathlib.Omega.{arith}
 use lib.ListN.{length, length-set}
 use lib.Ieee.{Float, nan}
 use Rattle.scalar.specs.Number.{_⊘_, one, abs}
-use Rattle.matrix.specs.Answer.{Answer, refused, answered, and-then, mapped, refused-if, where-sized, if-sized}
-use Rattle.matrix.specs.Table.{table}
+use Rattle.answer.specs.Answer.{Answer, refused, answered, and-then, mapped, refused-if, where-sized, if-sized}
+use Rattle.answer.specs.Table.{table}
 use Rattle.matrix.specs.Matrix.{Vector, Matrix, row, cell, identity}
 use Rattle.matrix.specs.Array.{cut, used, pad}
-use Rattle.matrix.specs.declared.Status.the-variants.{Done}
+use Rattle.answer.specs.declared.Status.the-variants.{Done}
 use Rattle.matrix.specs.declared.MatrixResult.{MatrixResult}
 use Rattle.matrix.specs.Result.{matrixResult, asMatrix, sized, shaped}
 use Rattle.matrix.specs.Kernel.{rowsOf}
-use Rattle.matrix.proofs.Tables.{getD-table, table-ext}
+use Rattle.answer.proofs.Tables.{getD-table, table-ext}
 use Rattle.matrix.proofs.Matrices.{Shape, shape-identity}
 use Rattle.matrix.proofs.Arrays.{cell-used}
 use Rattle.inverse.specs.Inverse.{noPivot, pivotRow, swapped, scaledRow, reduced, Augmented, _∣_, exchanged, cleared, column, columns, inv}
 use Rattle.inverse.specs.Rows.{Swap, Scale, Reduce, Clear}
-use Rattle.matrix.proofs.Answers.{if-true, if-false}
+use Rattle.answer.proofs.Answers.{if-true, if-false}
 use Rattle.matrix.proofs.Kernels.{rows-sized, identity-used, used-all}
 use Rattle.matrix.proofs.Results.{size, shaped-true}
 use Rattle.inverse.proofs.Laws.{column-ext, inv-shape}

@@ -7,17 +7,17 @@ use native.Mathlib.Omega.{arith}
 use lib.Dec.{eqb}
 use lib.Ieee.{Float}
 use Rattle.scalar.specs.Number.{abs}
-use Rattle.matrix.specs.declared.Status.{Status}
-use Rattle.matrix.specs.declared.Status.the-variants.{Done, Refused}
+use Rattle.answer.specs.declared.Status.{Status}
+use Rattle.answer.specs.declared.Status.the-variants.{Done, Refused}
 use Rattle.matrix.specs.declared.MatrixResult.{MatrixResult}
-use Rattle.matrix.specs.Answer.{Answer, refused, answered, and-then, mapped, refused-if, if-sized}
+use Rattle.answer.specs.Answer.{Answer, refused, answered, and-then, mapped, refused-if, if-sized}
 use Rattle.matrix.specs.Matrix.{Matrix, cell, identity}
 use Rattle.matrix.specs.Array.{used, pad}
 use Rattle.matrix.specs.Result.{asMatrix, sized}
 use Rattle.matrix.proofs.Matrices.{Shape, shape-mat, shape-identity, mat-ext}
 use Rattle.matrix.proofs.Arrays.{cell-used, used-pad}
 use Rattle.matrix.proofs.Results.{Size, sized-true, done-not-refused}
-use Rattle.matrix.proofs.Answers.{Told, result, number-of, result-of, told-if, told-then, told-mapped}
+use Rattle.answer.proofs.Answers.{Told, result, number-of, result-of, told-if, told-then, told-mapped}
 use Rattle.inverse.specs.Inverse.{noPivot, pivotRow, swapped, reduced, Augmented, _∣_, exchanged, cleared, column, columns, inv}
 use Rattle.inverse.proofs.Pivots.{pivot-within, pivot-ext}
 

@@ -5,7 +5,7 @@ use Prim.Native.Nat.{ℕ, zero, suc, _+_, _-_, _≤_, _<_}
 use native.Mathlib.Omega.{arith}
 use lib.Ieee.{Float, lt}
 use Rattle.scalar.specs.Number.{abs}
-use Rattle.scalar.proofs.Choice.{cond-true, cond-false}
+use Rattle.answer.proofs.Choice.{cond-true, cond-false}
 use Rattle.matrix.specs.Matrix.{Matrix, cell}
 use Rattle.inverse.specs.Inverse.{pivotRow}
 

@@ -11,11 +11,11 @@ use lib.ListN.{length, set, length-set}
 use lib.Seq.{set-getD}
 use lib.Ieee.{Float, nan}
 use Rattle.scalar.specs.Number.{_⊖_, _⊗_}
-use Rattle.scalar.proofs.Choice.{cond-true, cond-false}
-use Rattle.matrix.specs.Table.{table}
+use Rattle.answer.proofs.Choice.{cond-true, cond-false}
+use Rattle.answer.specs.Table.{table}
 use Rattle.matrix.specs.Matrix.{Vector, Matrix, at, row, cell, vecScale}
 use Rattle.matrix.specs.Array.{cut, used}
-use Rattle.matrix.proofs.Tables.{getD-table, filled, filled-more, length-filled}
+use Rattle.answer.proofs.Tables.{getD-table, filled, filled-more, length-filled}
 use Rattle.matrix.proofs.Matrices.{mat-ext}
 use Rattle.matrix.proofs.Arrays.{cell-used, at-cut}
 use Rattle.inverse.specs.Inverse.{swapped, scaledRow, reduced}

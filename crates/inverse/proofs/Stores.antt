@@ -9,9 +9,9 @@ use lib.Dec.{eqb}
 use borrow.Author.Tests.{eqb-true, eqb-false}
 use lib.ListN.{length, set, drop, List·getD-append}
 use lib.Seq.{getD-set-same, getD-set-other, getD-append-add, getD-drop}
-use Rattle.matrix.specs.Table.{table}
+use Rattle.answer.specs.Table.{table}
 use Rattle.matrix.specs.Matrix.{Vector, Matrix, at, row, cell}
-use Rattle.matrix.proofs.Tables.{length-table, getD-table, filled}
+use Rattle.answer.proofs.Tables.{length-table, getD-table, filled}
 
 -- ---- a cell after a store
 row-set : (a : Matrix) (c : ℕ) (x : Vector) (i : ℕ) → i < length a → row (set a c x) i ≡ cond (eqb i c) x (row a i)

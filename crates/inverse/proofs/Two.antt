@@ -4,7 +4,7 @@ use mathlib.Core.Bool.{Bool, true, false, cond}
 use Prim.Native.Nat.{ℕ}
 use lib.Ieee.{Float, lt}
 use Rattle.scalar.specs.Number.{_⊖_, _⊗_, _⊘_, one, +0, abs}
-use Rattle.matrix.specs.Answer.{Answer, refused, and-then, mapped, refused-if}
+use Rattle.answer.specs.Answer.{Answer, refused, and-then, mapped, refused-if}
 use Rattle.matrix.specs.Matrix.{Matrix, cell, identity}
 use Rattle.inverse.specs.Inverse.{noPivot, pivotRow, swapped, scaledRow, reduced, Augmented, _∣_, exchanged, cleared, column, columns, inv}
 use Rattle.inverse.specs.Two.{oneByOne, twoByTwo, reciprocal, fromDiagonal}

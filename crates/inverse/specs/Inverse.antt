@@ -5,8 +5,8 @@ use mathlib.Core.Bool.{Bool, cond}
 use lib.Dec.{eqb}
 use lib.Ieee.{Float, lt, ofBits, binary64}
 use Rattle.scalar.specs.Number.{_⊖_, _⊗_, _⊘_, one, epsilon, abs}
-use Rattle.matrix.specs.Answer.{Answer, answered, and-then, mapped, refused-if}
-use Rattle.matrix.specs.Table.{table}
+use Rattle.answer.specs.Answer.{Answer, answered, and-then, mapped, refused-if}
+use Rattle.answer.specs.Table.{table}
 use Rattle.matrix.specs.Matrix.{Vector, Matrix, at, cell, mat, identity}
 
 -- ---- the pivot

@@ -2,7 +2,7 @@
 use mathlib.Core.List.{[], _∷_}
 use lib.Ieee.{Float}
 use Rattle.scalar.specs.Number.{_⊗_, _⊘_, one, abs}
-use Rattle.matrix.specs.Answer.{Answer, and-then, mapped, refused-if}
+use Rattle.answer.specs.Answer.{Answer, and-then, mapped, refused-if}
 use Rattle.matrix.specs.Matrix.{Matrix, at, cell}
 use Rattle.matrix.specs.Array.{pad}
 use Rattle.matrix.specs.Result.{matrixResult}

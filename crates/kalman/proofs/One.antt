@@ -8,14 +8,14 @@ use borrow.Author.Tests.{eqb-true}
 use lib.ListN.{length}
 use lib.Ieee.{Float, nan}
 use Rattle.scalar.specs.Number.{+0}
-use Rattle.scalar.proofs.Choice.{and-right}
-use Rattle.matrix.specs.declared.Status.{Status}
-use Rattle.matrix.specs.declared.Status.the-variants.{Done, Refused}
+use Rattle.answer.proofs.Choice.{and-right}
+use Rattle.answer.specs.declared.Status.{Status}
+use Rattle.answer.specs.declared.Status.the-variants.{Done, Refused}
 use Rattle.matrix.specs.declared.ScalarResult.the-variants as Scalar
-use Rattle.matrix.specs.Answer.{Answer, refused, answered, if-sized}
+use Rattle.answer.specs.Answer.{Answer, refused, answered, if-sized}
 use Rattle.matrix.specs.Matrix.{Vector, at}
 use Rattle.matrix.specs.Array.{cut}
-use Rattle.matrix.proofs.Tables.{getD-padTo}
+use Rattle.answer.proofs.Tables.{getD-padTo}
 use Rattle.matrix.proofs.Results.{done-not-refused}
 use Rattle.kalman.specs.declared.KalmanFilter.{KalmanFilter}
 use Rattle.kalman.specs.declared.Updated.{Updated}

@@ -4,8 +4,8 @@ use mathlib.Core.List.{List}
 use mathlib.Core.Bool.{Bool, true, false}
 use Prim.Native.Nat.{ℕ}
 use lib.Ieee.{Float}
-use Rattle.matrix.specs.declared.Status.the-variants.{Done, Refused}
-use Rattle.matrix.specs.Answer.{Answer, refused, answered, where-sized}
+use Rattle.answer.specs.declared.Status.the-variants.{Done, Refused}
+use Rattle.answer.specs.Answer.{Answer, refused, answered, where-sized}
 use Rattle.matrix.specs.Array.{cut, used, padRow}
 use Rattle.matrix.specs.Kernel.{rowsOf, flatOfRows}
 use Rattle.matrix.specs.Result.{shaped, sizeOrFour}

@@ -4,8 +4,8 @@ use mathlib.Core.List.{List, [], _∷_}
 use lib.Ieee.{Float}
 use Rattle.matrix.specs.declared.MatrixResult.{MatrixResult}
 use Rattle.matrix.specs.declared.VectorResult.{VectorResult}
-use Rattle.matrix.specs.declared.Status.the-variants.{Done, Refused}
-use Rattle.matrix.specs.Answer.{Answer, refused, answered, where-sized, if-sized}
+use Rattle.answer.specs.declared.Status.the-variants.{Done, Refused}
+use Rattle.answer.specs.Answer.{Answer, refused, answered, where-sized, if-sized}
 use Rattle.matrix.specs.Matrix.{at}
 use Rattle.matrix.specs.Array.{cut, used, usedFlat, padRow}
 use Rattle.matrix.specs.Result.{asMatrix, asVector, asScalar}

@@ -3,9 +3,9 @@
 ghost use mathlib.Core.Path.{_≡_};
 ghost use Rattle.kalman_step.specs.Step.{estimateFrom};
 ghost use Rattle.kalman.specs.Record.{modelFrom, noFilter, newOf, trackerOf, stateOf, covarianceOf, predictOf, resetOf, updateOf, updateOneOf};
+use answer::Status;
 use matrix::MatrixResult;
 use matrix::ScalarResult;
-use matrix::Status;
 use matrix::VectorResult;
 use matrix::kernel;
 

@@ -3,7 +3,7 @@ use mathlib.Core.Path.{_≡_, ap, ap₂, _∙_}
 use mathlib.Core.List.{List}
 use Prim.Native.Nat.{ℕ}
 use lib.Ieee.{Float}
-use Rattle.matrix.specs.Answer.{where-sized}
+use Rattle.answer.specs.Answer.{where-sized}
 use Rattle.matrix.specs.Matrix.{Vector, Matrix, matvec, vecAdd, vecSub}
 use Rattle.matrix.specs.Array.{cut, used, usedFlat, padRow, pad}
 use Rattle.matrix.specs.Kernel.{cellsOf, rowsOfFlat}

@@ -7,14 +7,14 @@ use lib.Dec.{eqb}
 use lib.ListN.{length}
 use lib.Ieee.{Float}
 use borrow.Author.Tests.{eqb-true}
-use Rattle.scalar.proofs.Choice.{and-left, and-right}
-use Rattle.matrix.specs.declared.Status.the-variants.{Done}
-use Rattle.matrix.specs.Answer.{Answer, refused, answered, mapped}
+use Rattle.answer.proofs.Choice.{and-left, and-right}
+use Rattle.answer.specs.declared.Status.the-variants.{Done}
+use Rattle.answer.specs.Answer.{Answer, refused, answered, mapped}
 use Rattle.matrix.specs.Matrix.{Vector, Matrix, mul, matvec, transpose, sub, identity, vecAdd}
 use Rattle.matrix.specs.Array.{cut, used, padRow, pad}
 use Rattle.matrix.specs.Kernel.{flatOfRows}
 use Rattle.matrix.specs.Result.{vectorResult, sized}
-use Rattle.matrix.proofs.Answers.{same-answer, differ}
+use Rattle.answer.proofs.Answers.{same-answer, differ}
 use Rattle.matrix.proofs.Matrices.{Shape, shape-mul}
 use Rattle.matrix.proofs.Arrays.{used-pad, cut-padRow}
 use Rattle.matrix.proofs.Vectors.{length-vecSub}

@@ -3,7 +3,7 @@ use Prim.Native.Nat.{ℕ}
 use mathlib.Core.List.{[], _∷_}
 use lib.Ieee.{Float, binary64, ofBits}
 use Rattle.scalar.specs.Number.{_⊗_, +0, one, half}
-use Rattle.matrix.specs.Answer.{Answer, mapped}
+use Rattle.answer.specs.Answer.{Answer, mapped}
 use Rattle.matrix.specs.Matrix.{Vector, Matrix, mul, matvec, add, sub, transpose, identity, scale, vecAdd, vecSub}
 use Rattle.inverse.specs.Inverse.{inv}
 

@@ -4,8 +4,8 @@ use mathlib.Core.List.{List, []}
 use mathlib.Core.Bool.{Bool, _&&_}
 use lib.Dec.{eqb}
 use lib.Ieee.{Float}
-use Rattle.matrix.specs.declared.Status.the-variants.{Done, Refused}
-use Rattle.matrix.specs.Answer.{Answer, refused, answered}
+use Rattle.answer.specs.declared.Status.the-variants.{Done, Refused}
+use Rattle.answer.specs.Answer.{Answer, refused, answered}
 use Rattle.matrix.specs.Matrix.{Matrix}
 use Rattle.matrix.specs.Array.{cut, used, usedFlat, padRow, pad}
 use Rattle.matrix.specs.Kernel.{flatOfRows}

@@ -3,7 +3,7 @@
 ghost use mathlib.Core.Path.{_≡_};
 ghost use mathlib.Core.Bool.{true};
 ghost use mathlib.Core.List.{[], _∷_};
-ghost use Rattle.matrix.specs.Answer.{refused, where-sized, if-sized};
+ghost use Rattle.answer.specs.Answer.{refused, where-sized, if-sized};
 ghost use Rattle.matrix.specs.Matrix.{vecAdd, matvec};
 ghost use Rattle.matrix.specs.Array.{cut, used, usedFlat, padRow, pad};
 ghost use Rattle.matrix.specs.Kernel.{rowsOf};
@@ -12,9 +12,9 @@ ghost use Rattle.inverse.specs.Inverse.{inv as invOf};
 ghost use Rattle.inverse.specs.Two.{oneByOne};
 ghost use Rattle.kalman_step.specs.Kalman.{propagated as propagatedOf, gain as gainOf, innovationOf, corrected as correctedOf, correction, predict as predictOfModel, update as updateOfModel};
 ghost use Rattle.kalman_step.specs.Step.{flat, moving, measuring, estimateIn, estimateFrom, moved, movedOf, found, foundOf, wellSized, fitting};
+use answer::Status;
 use matrix::MatrixResult;
 use matrix::ScalarResult;
-use matrix::Status;
 use matrix::VectorResult;
 use matrix::kernel;
 

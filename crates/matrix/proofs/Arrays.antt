@@ -7,12 +7,12 @@ use native.Mathlib.Omega.{arith}
 use lib.ListN.{length, getD, set, replicate, length-map}
 use lib.Ieee.{Float, nan}
 use Rattle.scalar.specs.Number.{_⊗_, +0}
-use Rattle.matrix.specs.Table.{table, padTo}
+use Rattle.answer.specs.Table.{table, padTo}
 use Rattle.matrix.specs.Matrix.{Vector, Matrix, at, row, cell, mat, sum, mul, matvec, transpose}
 use Rattle.matrix.specs.Array.{cut, used, padRow, pad}
 use Rattle.matrix.specs.Result.{sizeOrFour}
 use Rattle.matrix.specs.Kernel.{rowTimes}
-use Rattle.matrix.proofs.Tables.{length-table, getD-table, table-ext, table-getD, getD-padTo, map-table, Filling, filling-none, filling-more, filling-all}
+use Rattle.answer.proofs.Tables.{length-table, getD-table, table-ext, table-getD, getD-padTo, map-table, Filling, filling-none, filling-more, filling-all}
 use Rattle.matrix.proofs.Matrices.{sum-ext, sums, Shape, shape-mat, cell-mat, mul-ext, matvec-ext, transpose-ext, both-ext}
 use Rattle.matrix.proofs.Results.{Size, or-four-size, or-four-most}
 

@@ -10,14 +10,14 @@ use lib.ListN.{length, getD, replicate}
 use lib.Ieee.{Float, nan}
 use Rattle.scalar.specs.Number.{_⊕_, _⊖_, _⊗_, +0, one}
 use Rattle.scalar.proofs.Product.{times-comm}
-use Rattle.matrix.specs.declared.Status.the-variants.{Done}
-use Rattle.matrix.specs.Answer.{where-sized}
-use Rattle.matrix.specs.Table.{table}
+use Rattle.answer.specs.declared.Status.the-variants.{Done}
+use Rattle.answer.specs.Answer.{where-sized}
+use Rattle.answer.specs.Table.{table}
 use Rattle.matrix.specs.Matrix.{Vector, Matrix, at, row, cell, mat, sum, identity, add, sub, matvec}
 use Rattle.matrix.specs.Array.{cut, used, padRow, pad, usedFlat}
 use Rattle.matrix.specs.Result.{matrixResult, vectorResult, asMatrix, asVector}
 use Rattle.matrix.specs.Kernel.{rowsOf, cellsOf, rowsOfFlat, flatOfRows}
-use Rattle.matrix.proofs.Tables.{getD-table, table-ext, table-getD}
+use Rattle.answer.proofs.Tables.{getD-table, table-ext, table-getD}
 use Rattle.matrix.proofs.Matrices.{sum-ext, mat-ext, cell-mat, Shape, shape-mat}
 use Rattle.matrix.proofs.Arrays.{matvec-used, both-used, cut-padRow, used-pad}
 use Rattle.matrix.proofs.Results.{as-answered, as-refused, as-sized, matrix-answered, vector-answered}

@@ -1,6 +1,4 @@
-pub mod Tables
 pub mod Matrices
-pub mod Answers
 pub mod Results
 pub mod Arrays
 pub mod Vectors

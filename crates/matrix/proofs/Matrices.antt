@@ -10,10 +10,10 @@ use lib.Dec.{eqb}
 use lib.ListN.{length, replicate}
 use lib.Ieee.{Float, nan, neg}
 use Rattle.scalar.specs.Number.{_⊕_, _⊗_, +0, one}
-use Rattle.matrix.specs.Table.{table}
+use Rattle.answer.specs.Table.{table}
 use Rattle.matrix.specs.Matrix.{Vector, Matrix, at, row, cell, mat, sumFrom, sum, mul, matvec, transpose, identity, filled, zeros, scale, negated, set}
 use Rattle.matrix.specs.Kernel.{plusScaled}
-use Rattle.matrix.proofs.Tables.{length-table, getD-table, table-ext}
+use Rattle.answer.proofs.Tables.{length-table, getD-table, table-ext}
 
 -- ---- sums
 pub sumFrom-ext : {s u : Float} (n : ℕ) (f g : ℕ → Float) → s ≡ u → ((t : ℕ) → t < n → f t ≡ g t) → sumFrom s n f ≡ sumFrom u n g

@@ -7,13 +7,13 @@ use native.Mathlib.Omega.{arith}
 use lib.Dec.{leb, ltb}
 use borrow.Author.Tests.{leb-true, ltb-true, le-leb, eq-eqb}
 use lib.Ieee.{Float}
-use Rattle.scalar.proofs.Choice.{and-left, and-right, cond-true}
-use Rattle.matrix.specs.declared.Status.{Status}
-use Rattle.matrix.specs.declared.Status.the-variants.{Done, Refused}
+use Rattle.answer.proofs.Choice.{and-left, and-right, cond-true}
+use Rattle.answer.specs.declared.Status.{Status}
+use Rattle.answer.specs.declared.Status.the-variants.{Done, Refused}
 use Rattle.matrix.specs.declared.ScalarResult.{ScalarResult}
 use Rattle.matrix.specs.declared.ScalarResult.the-variants as Scalar
 use Rattle.matrix.specs.declared.TestResult.the-variants as Test
-use Rattle.matrix.specs.Answer.{Answer, refused, answered, where-sized, if-sized}
+use Rattle.answer.specs.Answer.{Answer, refused, answered, where-sized, if-sized}
 use Rattle.matrix.specs.Matrix.{Vector, Matrix}
 use Rattle.matrix.specs.Array.{pad, padRow}
 use Rattle.matrix.specs.Result.{matrixResult, vectorResult, asMatrix, asVector, asScalar, asTest, sized, sizeOrFour, shaped, alike, chained, inside}

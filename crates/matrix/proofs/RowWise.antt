@@ -5,12 +5,12 @@ use Prim.Native.Nat.{ℕ, _<_}
 use native.Mathlib.Nat.{le-trans}
 use lib.Ieee.{Float, nan}
 use Rattle.scalar.specs.Number.{_⊕_, _⊖_, _⊗_}
-use Rattle.matrix.specs.Table.{table}
+use Rattle.answer.specs.Table.{table}
 use Rattle.matrix.specs.Matrix.{Vector, Matrix, at, row, cell, mat, sum, identity, transpose, add, sub, mul, vecAdd, vecSub}
 use Rattle.matrix.specs.Array.{cut, used, padRow}
 use Rattle.matrix.specs.Result.{sizeOrFour}
 use Rattle.matrix.specs.Kernel.{rowTimes, rowTimesTransposed}
-use Rattle.matrix.proofs.Tables.{getD-table, table-ext, table-getD}
+use Rattle.answer.proofs.Tables.{getD-table, table-ext, table-getD}
 use Rattle.matrix.proofs.Matrices.{sum-ext, cell-mat, Shape}
 use Rattle.matrix.proofs.Arrays.{at-cut, cell-used, row-used, kept-sized}
 use Rattle.matrix.proofs.Results.{Size, or-four-size}

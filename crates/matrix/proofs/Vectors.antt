@@ -8,13 +8,13 @@ use borrow.Author.Tests.{le-leb}
 use lib.ListN.{length}
 use lib.Ieee.{Float}
 use Rattle.scalar.specs.Number.{_⊕_, _⊖_, _⊗_, +0}
-use Rattle.scalar.proofs.Choice.{cond-true}
+use Rattle.answer.proofs.Choice.{cond-true}
 use Rattle.scalar.proofs.Product.{times-comm}
-use Rattle.matrix.specs.Table.{table}
+use Rattle.answer.specs.Table.{table}
 use Rattle.matrix.specs.Matrix.{Vector, Matrix, at, cell, mat, sum, vecAdd, vecSub, vecScale, dot, matvec, outer}
 use Rattle.matrix.specs.Array.{cut, padRow}
 use Rattle.matrix.specs.Result.{sizeOrFour}
-use Rattle.matrix.proofs.Tables.{length-table, table-ext}
+use Rattle.answer.proofs.Tables.{length-table, table-ext}
 use Rattle.matrix.proofs.Matrices.{sum-ext, mat-ext, Shape, shape-mat}
 use Rattle.matrix.proofs.Results.{Size}
 use Rattle.matrix.proofs.Arrays.{at-cut, kept-row}

@@ -4,7 +4,7 @@ use mathlib.Core.List.{List, map}
 use lib.ListN.{getD, replicate}
 use lib.Ieee.{Float, nan}
 use Rattle.scalar.specs.Number.{+0}
-use Rattle.matrix.specs.Table.{table, padTo}
+use Rattle.answer.specs.Table.{table, padTo}
 use Rattle.matrix.specs.Matrix.{Vector, Matrix, at, row, mat}
 
 -- the used n numbers of an array

@@ -5,10 +5,10 @@ use mathlib.Core.List.{List, []}
 use lib.Dec.{eqb}
 use lib.Ieee.{Float}
 use Rattle.scalar.specs.Number.{_⊕_, _⊗_}
-use Rattle.matrix.specs.Table.{table}
+use Rattle.answer.specs.Table.{table}
 use Rattle.matrix.specs.Matrix.{Vector, Matrix, at, cell, sum}
 use Rattle.matrix.specs.Array.{pad, padRow, usedFlat}
-use Rattle.matrix.specs.Answer.{Answer, refused, answered}
+use Rattle.answer.specs.Answer.{Answer, refused, answered}
 use Rattle.matrix.specs.Result.{sized, shaped}
 
 -- a matrix in its array, +0 outside; all +0 in the place of a refusal

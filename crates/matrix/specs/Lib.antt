@@ -1,5 +1,3 @@
-pub mod Answer
-pub mod Table
 pub mod Matrix
 pub mod Array
 pub mod Result

@@ -8,7 +8,7 @@ use lib.Dec.{eqb}
 use lib.Ieee.{Float, nan, eq, neg}
 use Rattle.root.specs.Root.{root}
 use Rattle.scalar.specs.Number.{_⊕_, _⊖_, _⊗_, +0, one}
-use Rattle.matrix.specs.Table.{table}
+use Rattle.answer.specs.Table.{table}
 
 abbrev pub Vector : Type 0
 Vector = List Float

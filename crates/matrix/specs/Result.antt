@@ -4,15 +4,15 @@ use mathlib.Core.List.{List, []}
 use mathlib.Core.Bool.{Bool, _&&_, cond}
 use lib.Dec.{leb, ltb, eqb}
 use lib.Ieee.{Float}
-use Rattle.matrix.specs.declared.Status.{Status}
-use Rattle.matrix.specs.declared.Status.the-variants.{Done, Refused}
+use Rattle.answer.specs.declared.Status.{Status}
+use Rattle.answer.specs.declared.Status.the-variants.{Done, Refused}
 use Rattle.matrix.specs.declared.MatrixResult.{MatrixResult}
 use Rattle.matrix.specs.declared.VectorResult.{VectorResult}
 use Rattle.matrix.specs.declared.ScalarResult.{ScalarResult}
 use Rattle.matrix.specs.declared.ScalarResult.the-variants as Scalar
 use Rattle.matrix.specs.declared.TestResult.{TestResult}
 use Rattle.matrix.specs.declared.TestResult.the-variants as Test
-use Rattle.matrix.specs.Answer.{Answer, refused, answered}
+use Rattle.answer.specs.Answer.{Answer, refused, answered}
 use Rattle.matrix.specs.Matrix.{Vector, Matrix}
 use Rattle.matrix.specs.Array.{pad, padRow}
 

@@ -4,7 +4,7 @@
 ghost use mathlib.Core.Path.{_≡_};
 ghost use mathlib.Core.Bool.{_&&_};
 ghost use mathlib.Core.List.{[]};
-ghost use Rattle.matrix.specs.Answer.{where-sized};
+ghost use Rattle.answer.specs.Answer.{where-sized};
 ghost use Rattle.matrix.specs.Matrix.{mul};
 ghost use Rattle.matrix.specs.Array.{cut, used, padRow, pad};
 ghost use Rattle.matrix.specs.Result.{matrixResult, vectorResult, asMatrix, sized, shaped, alike, chained, inside, sizeOrFour};
@@ -12,11 +12,7 @@ ghost use Rattle.matrix.specs.Kernel.{paired, applicable};
 
 pub mod kernel;
 
-// Whether a call was answered, or refused and by which of document 01's numbers.
-pub enum Status {
-    Done,
-    Refused(u8),
-}
+use answer::Status;
 
 // A matrix beside its case; beside a refusal the rows are all +0.
 pub struct MatrixResult {

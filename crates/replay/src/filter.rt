@@ -1,7 +1,6 @@
 // The operations of the linear filter, over the crate kalman. An operation is given by its place in the list of
 // names: 34 kf_new, 35 kf_predict, 36 kf_update, 37 kf_reset, 38 kf_posvel, 39 kf_seq. An answer's length is 0
 // where the words are not those of the operation.
-use crate::answer;
 use crate::line::after;
 use crate::line::is;
 use crate::line::matrix_at;
@@ -10,10 +9,11 @@ use crate::line::part;
 use crate::line::size;
 use crate::line::vector_at;
 use crate::line::word;
+use crate::reply;
+use answer::Status;
 use kalman::KalmanFilter;
 use kalman::Stepped;
 use matrix::ScalarResult;
-use matrix::Status;
 
 // A filter on its way through steps: the next word to read, and the place of the next byte.
 struct Run {
@@ -61,11 +61,11 @@ fn filter_end(w: &[u64]) -> usize {
 // What the filter leaves: its state and covariance.
 fn put_left(out: &mut [u8], at: usize, f: KalmanFilter) -> usize {
     let n = f.n;
-    let bar = answer::put_text(out, at, b" |");
+    let bar = reply::put_text(out, at, b" |");
     let x = f.state();
     let cells = x.cells;
-    let p = answer::put_cells(out, bar, cells, n);
-    answer::put_rows(out, p, matrix::rows_of(f.covariance()), n, n)
+    let p = reply::put_cells(out, bar, cells, n);
+    reply::put_rows(out, p, matrix::rows_of(f.covariance()), n, n)
 }
 
 // ---- steps
@@ -73,7 +73,7 @@ fn put_left(out: &mut [u8], at: usize, f: KalmanFilter) -> usize {
 fn put_stepped(s: Stepped, out: &mut [u8], at: usize, next: usize) -> Run {
     let filter = s.filter;
     let status = s.answer;
-    let told = answer::put_status(out, at, status);
+    let told = reply::put_status(out, at, status);
     let left = put_left(out, told, filter);
     Run {
         filter,
@@ -94,7 +94,7 @@ fn updated(f: KalmanFilter, w: &[u64], next: usize, out: &mut [u8], at: usize) -
     let s = f.update(z, k);
     let filter = s.filter;
     let innovation = s.answer;
-    let told = answer::put_vector(out, at, innovation, k);
+    let told = reply::put_vector(out, at, innovation, k);
     let left = put_left(out, told, filter);
     Run {
         filter,
@@ -132,7 +132,7 @@ fn step(letter: u64, f: KalmanFilter, w: &[u64], next: usize, out: &mut [u8], at
 // Between the answers of two steps stands ` ; `.
 fn put_joint(out: &mut [u8], at: usize, is_more: bool) -> usize {
     if is_more {
-        answer::put_text(out, at, b" ; ")
+        reply::put_text(out, at, b" ; ")
     } else {
         at
     }
@@ -184,12 +184,12 @@ fn put_updated_one(f: KalmanFilter, z: f64, out: &mut [u8], at: usize) -> usize 
     let innovation = s.answer;
     match innovation {
         ScalarResult::Value(y) => {
-            let ok = answer::put_text(out, at, b"ok");
-            let told = answer::put_number(out, ok, y);
+            let ok = reply::put_text(out, at, b"ok");
+            let told = reply::put_number(out, ok, y);
             put_left(out, told, filter)
         }
         ScalarResult::Refused(number) => {
-            let told = answer::put_refused(out, at, number);
+            let told = reply::put_refused(out, at, number);
             put_left(out, told, filter)
         }
     }
@@ -223,7 +223,7 @@ fn fresh(f: KalmanFilter, w: &[u64], next: usize, out: &mut [u8]) -> usize {
     if next != w.len() {
         return 0;
     }
-    let at = answer::put_text(out, 0, b"ok");
+    let at = reply::put_text(out, 0, b"ok");
     put_left(out, at, f)
 }
 
@@ -244,7 +244,7 @@ fn posvel(w: &[u64], out: &mut [u8]) -> usize {
         return 0;
     }
     let f = KalmanFilter::position_velocity(number(w, 0), number(w, 1), number(w, 2));
-    let at = answer::put_text(out, 0, b"ok");
+    let at = reply::put_text(out, 0, b"ok");
     let a = f.a;
     let b = f.b;
     let h = f.h;
@@ -259,7 +259,7 @@ fn posvel(w: &[u64], out: &mut [u8]) -> usize {
 }
 
 fn put_flat(out: &mut [u8], at: usize, m: [f64; 16], r: usize, c: usize) -> usize {
-    answer::put_rows(out, at, matrix::kernel::from_flat(&m), r, c)
+    reply::put_rows(out, at, matrix::kernel::from_flat(&m), r, c)
 }
 
 pub fn answer_of(op: usize, w: &[u64], out: &mut [u8]) -> usize {

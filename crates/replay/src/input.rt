@@ -1,5 +1,5 @@
 // Standard input line by line, through a lent chunk that is filled again when its bytes are used up.
-use crate::answer::put_byte;
+use crate::reply::put_byte;
 
 // Where in the chunk the next byte stands, and where its bytes end.
 pub struct Input {

@@ -3,11 +3,11 @@
 // many calls of each operation agreed. Rests on the library's public functions and on io.
 use libc::STDOUT_FILENO;
 
-mod answer;
 mod filter;
 mod input;
 mod line;
 mod matrices;
+mod reply;
 mod scalars;
 mod sizes;
 mod smoother;

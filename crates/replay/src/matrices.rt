@@ -1,11 +1,11 @@
 // The matrix and vector operations, over matrix, elementwise, vector, inverse and cholesky. An operation is given by
 // its place in the list of names (main.rt); an answer's length is 0 where the words are not those of the operation.
-use crate::answer;
 use crate::line::after;
 use crate::line::matrix_at;
 use crate::line::number;
 use crate::line::size;
 use crate::line::vector_at;
+use crate::reply;
 use elementwise::Matrix;
 use matrix::MatrixResult;
 
@@ -30,7 +30,7 @@ fn made(op: usize, w: &[u64], out: &mut [u8]) -> usize {
     if count != w.len() {
         return 0;
     }
-    answer::put_matrix(out, 0, made_of(op, r, c, number(w, 2)), r, c)
+    reply::put_matrix(out, 0, made_of(op, r, c, number(w, 2)), r, c)
 }
 
 // One matrix, R C a.
@@ -42,9 +42,9 @@ fn on_one(op: usize, w: &[u64], out: &mut [u8]) -> usize {
         return 0;
     }
     match op {
-        14 => answer::put_matrix(out, 0, elementwise::transpose(a, r, c), c, r),
-        19 => answer::put_matrix(out, 0, elementwise::neg(a, r, c), r, c),
-        _ => answer::scalar(out, elementwise::frob_norm(a, r, c)),
+        14 => reply::put_matrix(out, 0, elementwise::transpose(a, r, c), c, r),
+        19 => reply::put_matrix(out, 0, elementwise::neg(a, r, c), r, c),
+        _ => reply::scalar(out, elementwise::frob_norm(a, r, c)),
     }
 }
 
@@ -57,7 +57,7 @@ fn scaled(w: &[u64], out: &mut [u8]) -> usize {
     if after(k, 1, 1) != w.len() {
         return 0;
     }
-    answer::put_matrix(out, 0, elementwise::scale(a, r, c, number(w, k)), r, c)
+    reply::put_matrix(out, 0, elementwise::scale(a, r, c, number(w, k)), r, c)
 }
 
 // One cell, R C i j a, and for set the number x.
@@ -70,12 +70,12 @@ fn on_cell(op: usize, w: &[u64], out: &mut [u8]) -> usize {
     let k = after(4, r, c);
     if op == 22 {
         if k == w.len() {
-            return answer::scalar(out, elementwise::get(a, r, c, i, j));
+            return reply::scalar(out, elementwise::get(a, r, c, i, j));
         }
         return 0;
     }
     if after(k, 1, 1) == w.len() {
-        answer::put_matrix(out, 0, elementwise::set(a, r, c, i, j, number(w, k)), r, c)
+        reply::put_matrix(out, 0, elementwise::set(a, r, c, i, j, number(w, k)), r, c)
     } else {
         0
     }
@@ -92,9 +92,9 @@ fn on_two(op: usize, w: &[u64], out: &mut [u8]) -> usize {
         return 0;
     }
     match op {
-        15 => answer::put_matrix(out, 0, elementwise::add_mat(a, r, c, b, r, c), r, c),
-        16 => answer::put_matrix(out, 0, elementwise::sub_mat(a, r, c, b, r, c), r, c),
-        _ => answer::test(out, elementwise::eq(a, r, c, b, r, c)),
+        15 => reply::put_matrix(out, 0, elementwise::add_mat(a, r, c, b, r, c), r, c),
+        16 => reply::put_matrix(out, 0, elementwise::sub_mat(a, r, c, b, r, c), r, c),
+        _ => reply::test(out, elementwise::eq(a, r, c, b, r, c)),
     }
 }
 
@@ -106,9 +106,9 @@ fn on_square(op: usize, w: &[u64], out: &mut [u8]) -> usize {
         return 0;
     }
     match op {
-        21 => answer::scalar(out, elementwise::trace(a, n)),
-        32 => answer::put_matrix(out, 0, inverse::inv(a, n), n, n),
-        _ => answer::put_matrix(out, 0, cholesky::cholesky(a, n), n, n),
+        21 => reply::scalar(out, elementwise::trace(a, n)),
+        32 => reply::put_matrix(out, 0, inverse::inv(a, n), n, n),
+        _ => reply::put_matrix(out, 0, cholesky::cholesky(a, n), n, n),
     }
 }
 
@@ -122,7 +122,7 @@ fn matmul(w: &[u64], out: &mut [u8]) -> usize {
     if after(at, k, c) != w.len() {
         return 0;
     }
-    answer::put_matrix(out, 0, matrix::matmul(a, r, k, b, k, c), r, c)
+    reply::put_matrix(out, 0, matrix::matmul(a, r, k, b, k, c), r, c)
 }
 
 fn matvec(w: &[u64], out: &mut [u8]) -> usize {
@@ -134,7 +134,7 @@ fn matvec(w: &[u64], out: &mut [u8]) -> usize {
     if after(at, c, 1) != w.len() {
         return 0;
     }
-    answer::put_vector(out, 0, vector::matvec(a, r, c, v, c), r)
+    reply::put_vector(out, 0, vector::matvec(a, r, c, v, c), r)
 }
 
 fn outer(w: &[u64], out: &mut [u8]) -> usize {
@@ -146,7 +146,7 @@ fn outer(w: &[u64], out: &mut [u8]) -> usize {
     if after(at, c, 1) != w.len() {
         return 0;
     }
-    answer::put_matrix(out, 0, vector::outer(u, r, v, c), r, c)
+    reply::put_matrix(out, 0, vector::outer(u, r, v, c), r, c)
 }
 
 // Two vectors, N v w.
@@ -159,9 +159,9 @@ fn on_vectors(op: usize, w: &[u64], out: &mut [u8]) -> usize {
         return 0;
     }
     match op {
-        27 => answer::put_vector(out, 0, vector::vec_add(u, n, v, n), n),
-        28 => answer::put_vector(out, 0, vector::vec_sub(u, n, v, n), n),
-        _ => answer::scalar(out, vector::vec_dot(u, n, v, n)),
+        27 => reply::put_vector(out, 0, vector::vec_add(u, n, v, n), n),
+        28 => reply::put_vector(out, 0, vector::vec_sub(u, n, v, n), n),
+        _ => reply::scalar(out, vector::vec_dot(u, n, v, n)),
     }
 }
 
@@ -172,12 +172,12 @@ fn on_vector(op: usize, w: &[u64], out: &mut [u8]) -> usize {
     let u = vector_at(w, 1, n);
     if op == 31 {
         if at == w.len() {
-            return answer::scalar(out, vector::vec_norm(u, n));
+            return reply::scalar(out, vector::vec_norm(u, n));
         }
         return 0;
     }
     if after(at, 1, 1) == w.len() {
-        answer::put_vector(out, 0, vector::vec_scale(u, n, number(w, at)), n)
+        reply::put_vector(out, 0, vector::vec_scale(u, n, number(w, at)), n)
     } else {
         0
     }

@@ -1,8 +1,8 @@
 // The scalar operations, over the crate scalar. An operation is given by its place in the list of names: 0
 // consts, 1 sqrt, 2 abs, 3 clamp_val, 4 saturate, 5 from_f64, 6 to_f64, 7 from_int, 8 pid_abs, 9 clamp_pid.
-use crate::answer;
 use crate::line::number;
 use crate::line::word;
+use crate::reply;
 use scalar::ControlScalar;
 use scalar::PidScalar;
 
@@ -10,8 +10,8 @@ fn consts(out: &mut [u8]) -> usize {
     let c = ControlScalar::constants();
     let scaled = c.epsilon * 1000000.0;
     let all = [c.zero, c.one, c.two, c.half, c.pi, c.epsilon, scaled];
-    let at = answer::put_text(out, 0, b"ok");
-    answer::put_numbers(out, at, &all)
+    let at = reply::put_text(out, 0, b"ok");
+    reply::put_numbers(out, at, &all)
 }
 
 // A whole number of 32 bits, signed; one below zero stands as its 64 bits.
@@ -59,5 +59,5 @@ pub fn answer_of(op: usize, w: &[u64], out: &mut [u8]) -> usize {
         return consts(out);
     }
     let x = result(op, number(w, 0), number(w, 1), number(w, 2), word(w, 0));
-    answer::number(out, x)
+    reply::number(out, x)
 }

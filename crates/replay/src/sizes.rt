@@ -1,9 +1,9 @@
 // Calls that sizes alone decide, `size FUNCTION SIZES..`: the numbers in them are made up here. The answer is `ok` or
 // `refused NUMBER`, and ` | unchanged` or ` | changed` where a record or a buffer came with the call. Rests on the
 // library's public functions.
-use crate::answer;
 use crate::line::index;
 use crate::line::size;
+use crate::reply;
 use crate::smoother::is_marked;
 use crate::tally::index_of;
 use elementwise::Matrix;
@@ -61,12 +61,12 @@ fn words_of(k: usize) -> usize {
 
 fn of_matrix(m: MatrixResult) -> u8 {
     let status = m.status;
-    answer::status_number(status)
+    reply::status_number(status)
 }
 
 fn of_vector(v: VectorResult) -> u8 {
     let status = v.status;
-    answer::status_number(status)
+    reply::status_number(status)
 }
 
 fn of_scalar(s: ScalarResult) -> u8 {
@@ -92,17 +92,17 @@ fn of_count(c: CountResult) -> u8 {
 
 fn of_slot(s: StateResult) -> u8 {
     let status = s.status;
-    answer::status_number(status)
+    reply::status_number(status)
 }
 
 fn of_stored(s: Stored) -> u8 {
     let status = s.answer;
-    answer::status_number(status)
+    reply::status_number(status)
 }
 
 fn of_stepped(s: Stepped) -> u8 {
     let status = s.answer;
-    answer::status_number(status)
+    reply::status_number(status)
 }
 
 // ---- functions of sizes and made-up numbers
@@ -369,7 +369,7 @@ fn get(w: &[u64], slots: &[f64], out: &mut [u8]) -> usize {
     let part = s.get_state(slots, k);
     let length = part.len();
     let at = put_number(out, s.get_state_refusal(slots, k));
-    answer::put_count(out, at, length as u64)
+    reply::put_count(out, at, length as u64)
 }
 
 // A transition, slots and an output.
@@ -378,7 +378,7 @@ fn smooth(w: &[u64], slots: &[f64], output: &mut [f64]) -> Outcome {
     let a = [[1.0; 4]; 4];
     let status = s.smooth(slots, a, size(w, 3), output);
     Outcome {
-        number: answer::status_number(status),
+        number: reply::status_number(status),
         is_same: is_marked(output),
     }
 }
@@ -416,18 +416,18 @@ fn on_slots(k: usize, w: &[u64], out: &mut [u8]) -> usize {
 
 fn put_number(out: &mut [u8], number: u8) -> usize {
     if number == 0 {
-        answer::put_text(out, 0, b"ok")
+        reply::put_text(out, 0, b"ok")
     } else {
-        answer::put_refused(out, 0, number)
+        reply::put_refused(out, 0, number)
     }
 }
 
 fn put_outcome(out: &mut [u8], o: Outcome) -> usize {
     let at = put_number(out, o.number);
     if o.is_same {
-        answer::put_text(out, at, b" | unchanged")
+        reply::put_text(out, at, b" | unchanged")
     } else {
-        answer::put_text(out, at, b" | changed")
+        reply::put_text(out, at, b" | changed")
     }
 }
 

@@ -1,13 +1,13 @@
 // The operations of the smoother, over the crate rts_smoother. An operation is given by its place in the list of
 // names: 40 rts_store, 41 rts_get, 42 rts_smooth, 43 rts_stale. An answer's length is 0 where the words are not
 // those of the operation. Buffers hold 1.5 wherever the library has not written.
-use crate::answer;
 use crate::line::after;
 use crate::line::index;
 use crate::line::matrix_at;
 use crate::line::size;
 use crate::line::vector_at;
-use matrix::Status;
+use crate::reply;
+use answer::Status;
 use matrix::TestResult;
 use rts_smoother::CountResult;
 use rts_smoother::FilteredState;
@@ -70,7 +70,7 @@ fn stored(s: RtsSmoother, w: &[u64], k: usize, slots: &mut [f64]) -> Stored {
 
 fn put_store(out: &mut [u8], at: usize, s: Status, is_told: bool) -> usize {
     if is_told {
-        answer::put_count(out, at, answer::status_number(s) as u64)
+        reply::put_count(out, at, reply::status_number(s) as u64)
     } else {
         at
     }
@@ -88,7 +88,7 @@ fn store_all(
 ) -> Kept {
     let mut smoother = s;
     let mut next = from;
-    let mut at = answer::put_text(out, 0, b"ok");
+    let mut at = reply::put_text(out, 0, b"ok");
     let mut left = count;
     while 0 < left {
         left -= 1;
@@ -111,10 +111,10 @@ fn count_of(s: RtsSmoother) -> usize {
 
 // How many slots are stored, and whether none is.
 fn put_lengths(out: &mut [u8], at: usize, s: RtsSmoother) -> usize {
-    let next = answer::put_count(out, at, count_of(s) as u64);
+    let next = reply::put_count(out, at, count_of(s) as u64);
     match s.is_empty() {
-        TestResult::Value(is_empty) => answer::put_flag(out, next, is_empty),
-        TestResult::Refused(number) => answer::put_refused(out, next, number),
+        TestResult::Value(is_empty) => reply::put_flag(out, next, is_empty),
+        TestResult::Refused(number) => reply::put_refused(out, next, number),
     }
 }
 
@@ -124,7 +124,7 @@ fn put_slots(out: &mut [u8], from: usize, s: RtsSmoother, slots: &[f64]) -> usiz
     let mut k = 0;
     let count = count_of(s);
     while k < count {
-        at = answer::put_numbers(out, at, s.get_state(slots, k));
+        at = reply::put_numbers(out, at, s.get_state(slots, k));
         k += 1;
     }
     at
@@ -138,7 +138,7 @@ fn store(s: RtsSmoother, w: &[u64], slots: &mut [f64], out: &mut [u8]) -> usize 
         return 0;
     }
     let kept = r.smoother;
-    let bar = answer::put_text(out, r.at, b" |");
+    let bar = reply::put_text(out, r.at, b" |");
     let told = put_lengths(out, bar, kept);
     put_slots(out, told, kept, slots)
 }
@@ -152,9 +152,9 @@ fn get(s: RtsSmoother, w: &[u64], slots: &mut [f64], out: &mut [u8]) -> usize {
     let kept = r.smoother;
     let number = kept.get_state_refusal(slots, k);
     if number == 0 {
-        answer::put_numbers(out, 2, kept.get_state(slots, k))
+        reply::put_numbers(out, 2, kept.get_state(slots, k))
     } else {
-        answer::put_refused(out, 0, number)
+        reply::put_refused(out, 0, number)
     }
 }
 
@@ -183,14 +183,14 @@ fn smooth(
     let status = s.smooth(slots, matrix_at(w, k, n, n), n, output);
     match status {
         Status::Done => {
-            let ok = answer::put_text(out, 0, b"ok");
-            let told = answer::put_count(out, ok, count_of(s) as u64);
-            let bar = answer::put_text(out, told, b" |");
-            answer::put_numbers(out, bar, output)
+            let ok = reply::put_text(out, 0, b"ok");
+            let told = reply::put_count(out, ok, count_of(s) as u64);
+            let bar = reply::put_text(out, told, b" |");
+            reply::put_numbers(out, bar, output)
         }
         Status::Refused(number) => {
             if is_marked(output) {
-                answer::put_refused(out, 0, number)
+                reply::put_refused(out, 0, number)
             } else {
                 0
             }

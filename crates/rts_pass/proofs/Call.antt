@@ -7,9 +7,9 @@ use native.Mathlib.Omega.{arith}
 use lib.ListN.{length, replicate}
 use lib.Ieee.{Float}
 use Rattle.scalar.specs.Number.{+0}
-use Rattle.matrix.specs.Answer.{Answer, refused, answered, mapped, if-sized}
+use Rattle.answer.specs.Answer.{Answer, refused, answered, mapped, if-sized}
 use Rattle.matrix.specs.Array.{used}
-use Rattle.matrix.proofs.Tables.{table-ext}
+use Rattle.answer.proofs.Tables.{table-ext}
 use Rattle.kalman_step.specs.Kalman.{Estimate}
 use Rattle.smoothing.specs.Smoother.{smooth}
 use Rattle.smoothing.specs.Demand3.{Demand3}

@@ -9,10 +9,10 @@ use lib.ListN.{length, take, drop, replicate, length-append, length-replicate, r
 use lib.Seq.{take-at, drop-at, take-append-add}
 use lib.Ieee.{Float}
 use Rattle.scalar.specs.Number.{+0}
-use Rattle.matrix.specs.declared.Status.{Status}
-use Rattle.matrix.specs.declared.Status.the-variants.{Done, Refused}
-use Rattle.matrix.specs.Answer.{Answer, refused, answered, mapped, if-sized}
-use Rattle.matrix.proofs.Tables.{length-table}
+use Rattle.answer.specs.declared.Status.{Status}
+use Rattle.answer.specs.declared.Status.the-variants.{Done, Refused}
+use Rattle.answer.specs.Answer.{Answer, refused, answered, mapped, if-sized}
+use Rattle.answer.proofs.Tables.{length-table}
 use Rattle.matrix.specs.Matrix.{Matrix}
 use Rattle.matrix.specs.Array.{used}
 use Rattle.kalman_step.specs.Kalman.{Estimate}

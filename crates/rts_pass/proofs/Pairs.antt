@@ -8,7 +8,7 @@ use lib.Ieee.{Float}
 use Rattle.matrix.specs.Matrix.{at}
 use Rattle.matrix.specs.Array.{cut, used}
 use Rattle.matrix.specs.Result.{sized}
-use Rattle.matrix.proofs.Tables.{length-table}
+use Rattle.answer.proofs.Tables.{length-table}
 use Rattle.matrix.proofs.Matrices.{Shape, shape-mat}
 use Rattle.matrix.proofs.Arrays.{length-cut, shape-used}
 use Rattle.matrix.proofs.Results.{Size}

@@ -7,14 +7,14 @@ use native.Mathlib.Omega.{arith}
 use lib.ListN.{length, drop, drop-of-length-le}
 use lib.Seq.{drop-cons}
 use lib.Ieee.{Float}
-use Rattle.matrix.specs.declared.Status.{Status}
-use Rattle.matrix.specs.declared.Status.the-variants.{Done, Refused}
-use Rattle.matrix.specs.Answer.{Answer, refused, answered, mapped}
-use Rattle.matrix.specs.Table.{table}
+use Rattle.answer.specs.declared.Status.{Status}
+use Rattle.answer.specs.declared.Status.the-variants.{Done, Refused}
+use Rattle.answer.specs.Answer.{Answer, refused, answered, mapped}
+use Rattle.answer.specs.Table.{table}
 use Rattle.matrix.specs.Matrix.{Vector, Matrix, at, mat}
 use Rattle.matrix.specs.Array.{padRow, pad}
-use Rattle.matrix.proofs.Answers.{differ, same-answer}
-use Rattle.matrix.proofs.Tables.{length-table, getD-table}
+use Rattle.answer.proofs.Answers.{differ, same-answer}
+use Rattle.answer.proofs.Tables.{length-table, getD-table}
 use Rattle.matrix.proofs.Vectors.{length-vecAdd}
 use Rattle.matrix.proofs.Kernels.{shape-add}
 use Rattle.kalman_step.specs.Kalman.{Estimate}

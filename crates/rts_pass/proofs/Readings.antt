@@ -7,10 +7,10 @@ use native.Mathlib.Omega.{arith}
 use lib.ListN.{length, length-append, List·getD-append}
 use lib.Seq.{getD-append-add}
 use lib.Ieee.{Float, nan}
-use Rattle.matrix.specs.Table.{table}
+use Rattle.answer.specs.Table.{table}
 use Rattle.matrix.specs.Matrix.{Matrix, at, row, cell, mat}
 use Rattle.matrix.specs.Array.{cut, used}
-use Rattle.matrix.proofs.Tables.{table-ext, table-getD}
+use Rattle.answer.proofs.Tables.{table-ext, table-getD}
 use Rattle.matrix.proofs.Matrices.{mat-ext}
 use Rattle.matrix.proofs.Kernels.{used-all}
 use Rattle.kalman_step.specs.Kalman.{Estimate, estimate}

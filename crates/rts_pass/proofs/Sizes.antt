@@ -6,7 +6,7 @@ use native.Mathlib.Nat.{mul-le-mul-left, mul-le-mul-right}
 use native.Mathlib.Omega.{arith}
 use lib.Dec.{leb}
 use borrow.Author.Tests.{leb-true, eqb-true}
-use Rattle.scalar.proofs.Choice.{cond-true, and-left, and-right}
+use Rattle.answer.proofs.Choice.{cond-true, and-left, and-right}
 use Rattle.matrix.specs.Result.{sized}
 use Rattle.buffer.proofs.Places.{ends-within}
 use Rattle.matrix.proofs.Results.{Size, size-of, sized-true}

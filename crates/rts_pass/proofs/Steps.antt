@@ -6,15 +6,15 @@ use Prim.Native.Nat.{ℕ, _+_, _*_, _≤_}
 use native.Mathlib.Omega.{arith}
 use lib.ListN.{length}
 use lib.Ieee.{Float}
-use Rattle.matrix.specs.declared.Status.{Status}
-use Rattle.matrix.specs.declared.Status.the-variants.{Done, Refused}
+use Rattle.answer.specs.declared.Status.{Status}
+use Rattle.answer.specs.declared.Status.the-variants.{Done, Refused}
 use Rattle.matrix.specs.declared.MatrixResult.{MatrixResult}
-use Rattle.matrix.specs.Answer.{answered, mapped, where-sized, if-sized}
+use Rattle.answer.specs.Answer.{answered, mapped, where-sized, if-sized}
 use Rattle.matrix.specs.Matrix.{Vector, Matrix, mul, matvec, add, sub, transpose, vecAdd, vecSub}
 use Rattle.matrix.specs.Array.{cut, used, padRow, pad}
 use Rattle.matrix.specs.Kernel.{rowsOf, cellsOf}
 use Rattle.matrix.specs.Result.{asMatrix, sized, shaped}
-use Rattle.matrix.proofs.Answers.{differ, same-answer}
+use Rattle.answer.proofs.Answers.{differ, same-answer}
 use Rattle.matrix.proofs.Matrices.{Shape}
 use Rattle.matrix.proofs.Vectors.{length-matvec, length-vecSub}
 use Rattle.matrix.proofs.Arrays.{used-pad, cut-padRow}

@@ -6,7 +6,7 @@ use lib.Dec.{leb, eqb}
 use lib.ListN.{length, replicate}
 use lib.Ieee.{Float}
 use Rattle.scalar.specs.Number.{+0}
-use Rattle.matrix.specs.Table.{table}
+use Rattle.answer.specs.Table.{table}
 use Rattle.matrix.specs.Matrix.{Matrix}
 use Rattle.matrix.specs.Result.{sized}
 use Rattle.buffer.specs.Buffer.{vectorAt, matrixAt, joined}

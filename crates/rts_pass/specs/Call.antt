@@ -5,10 +5,10 @@ use mathlib.Core.Bool.{true}
 use mathlib.Core.List.{List}
 use lib.ListN.{length}
 use lib.Ieee.{Float}
-use Rattle.matrix.specs.declared.Status.{Status}
-use Rattle.matrix.specs.declared.Status.the-variants.{Done, Refused}
-use Rattle.matrix.specs.Answer.{Answer, refused, answered}
-use Rattle.matrix.specs.Table.{table}
+use Rattle.answer.specs.declared.Status.{Status}
+use Rattle.answer.specs.declared.Status.the-variants.{Done, Refused}
+use Rattle.answer.specs.Answer.{Answer, refused, answered}
+use Rattle.answer.specs.Table.{table}
 use Rattle.matrix.specs.Array.{used}
 use Rattle.kalman_step.specs.Kalman.{Estimate}
 use Rattle.smoothing.specs.Smoother.{Duty}

@@ -6,9 +6,9 @@ use mathlib.Core.Bool.{Bool, _&&_}
 use lib.Dec.{eqb}
 use lib.ListN.{length}
 use lib.Ieee.{Float}
-use Rattle.matrix.specs.declared.Status.{Status}
-use Rattle.matrix.specs.declared.Status.the-variants.{Done, Refused}
-use Rattle.matrix.specs.Answer.{Answer, refused, answered, mapped, if-sized}
+use Rattle.answer.specs.declared.Status.{Status}
+use Rattle.answer.specs.declared.Status.the-variants.{Done, Refused}
+use Rattle.answer.specs.Answer.{Answer, refused, answered, mapped, if-sized}
 use Rattle.matrix.specs.Matrix.{Vector, Matrix}
 use Rattle.matrix.specs.Array.{cut, used, padRow, pad}
 use Rattle.kalman_step.specs.Kalman.{Estimate, estimate}

@@ -6,14 +6,14 @@ ghost use mathlib.Core.Bool.{true, cond};
 ghost use Prim.Native.Nat.{_+_, _*_, _≤_};
 ghost use lib.ListN.{length};
 ghost use Rattle.matrix.specs.Array.{cut, used, padRow, pad};
-ghost use Rattle.matrix.specs.Table.{table};
+ghost use Rattle.answer.specs.Table.{table};
 ghost use Rattle.matrix.specs.Result.{sized};
 ghost use Rattle.buffer.specs.Buffer.{left};
 ghost use Rattle.kalman_step.specs.Kalman.{gain};
 ghost use Rattle.smoothing.specs.Smoother.{smoothed};
 ghost use Rattle.rts_pass.specs.Buffer.{pairLength, stride, slotFrom, slotAt, roomy, counted, buffered};
 ghost use Rattle.rts_pass.specs.Pass.{smoothable, smoothOf, Passed, Stepped, stateMoved, covarianceMoved};
-use matrix::Status;
+use answer::Status;
 use matrix::kernel;
 
 // ---- sizes, tested by one bool

@@ -8,9 +8,9 @@ use lib.Dec.{leb, ltb}
 use lib.ListN.{length}
 use lib.Ieee.{Float}
 use borrow.Author.Tests.{eqb-true, ltb-true, lt-leb}
-use Rattle.scalar.proofs.Choice.{and-left, and-right}
-use Rattle.matrix.specs.declared.Status.the-variants.{Done}
-use Rattle.matrix.specs.Answer.{answered, if-sized, refused-if}
+use Rattle.answer.proofs.Choice.{and-left, and-right}
+use Rattle.answer.specs.declared.Status.the-variants.{Done}
+use Rattle.answer.specs.Answer.{answered, if-sized, refused-if}
 use Rattle.matrix.specs.Matrix.{Matrix}
 use Rattle.matrix.specs.Array.{cut, used, padRow, pad}
 use Rattle.matrix.specs.Kernel.{rowsOfFlat, flatOfRows}

@@ -7,9 +7,9 @@ use native.Mathlib.Omega.{arith}
 use lib.ListN.{length, take, drop, length-append, List·getD-append}
 use lib.Seq.{length-take-le, getD-take}
 use lib.Ieee.{Float, nan}
-use Rattle.matrix.specs.Table.{table}
+use Rattle.answer.specs.Table.{table}
 use Rattle.matrix.specs.Matrix.{Matrix, at}
-use Rattle.matrix.proofs.Tables.{table-ext}
+use Rattle.answer.proofs.Tables.{table-ext}
 use Rattle.matrix.proofs.Matrices.{mat-ext}
 use Rattle.buffer.specs.Buffer.{placed}
 use Rattle.buffer.proofs.Places.{ends-within}

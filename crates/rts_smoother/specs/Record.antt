@@ -5,10 +5,10 @@ use mathlib.Core.Bool.{Bool, _&&_, cond}
 use lib.Dec.{leb, ltb, eqb}
 use lib.ListN.{length, take, drop}
 use lib.Ieee.{Float}
-use Rattle.matrix.specs.declared.Status.{Status}
-use Rattle.matrix.specs.declared.Status.the-variants.{Done, Refused}
+use Rattle.answer.specs.declared.Status.{Status}
+use Rattle.answer.specs.declared.Status.the-variants.{Done, Refused}
 use Rattle.matrix.specs.declared.TestResult.{TestResult}
-use Rattle.matrix.specs.Answer.{Answer, refused, answered, refused-if, where-sized, if-sized}
+use Rattle.answer.specs.Answer.{Answer, refused, answered, refused-if, where-sized, if-sized}
 use Rattle.matrix.specs.Array.{padRow, pad}
 use Rattle.matrix.specs.Kernel.{flatOfRows}
 use Rattle.matrix.specs.Result.{sized, asTest}

@@ -9,7 +9,7 @@ ghost use Rattle.matrix.specs.Result.{sized};
 ghost use Rattle.buffer.specs.Buffer.{placed, left};
 ghost use Rattle.rts_pass.specs.Buffer.{stride, slotNumbers};
 ghost use Rattle.rts_smoother.specs.Record.{slotOf, storable, stateFrom, newOf, resetOf, lenOf, isEmptyOf, storeOf, getStateRefusal, getState, smoothWith};
-use matrix::Status;
+use answer::Status;
 use matrix::TestResult;
 use matrix::kernel;
 use rts_pass::is_buffered;

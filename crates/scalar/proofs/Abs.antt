@@ -11,7 +11,7 @@ use lib.Pow.{pow-pos}
 use lib.Ieee.{Float, nan, inf, fin, binary64, neg, lt, eq, ofBits, fits, up, down}
 use lib.Ieee.Fits.{up-pos}
 use Rattle.scalar.specs.Number.{+0, abs}
-use Rattle.scalar.proofs.Choice.{never, and-left}
+use Rattle.answer.proofs.Choice.{never, and-left}
 
 pub abs-below : (x : Float) → lt x +0 ≡ true → neg x ≡ abs x
 unfolding abs lt neg ofBits

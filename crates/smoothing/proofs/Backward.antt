@@ -4,10 +4,10 @@ use mathlib.Core.List.{List, [], _∷_, _++_, map}
 use Prim.Native.Nat.{ℕ, zero, suc, _<_, zero-le, suc-le-suc}
 use native.Mathlib.Nat.{le-of-suc-le-suc, not-suc-le-zero}
 use lib.ListN.{length, drop}
-use Rattle.matrix.specs.Table.{table}
-use Rattle.matrix.specs.Answer.{Answer, refused, answered, and-then, mapped}
+use Rattle.answer.specs.Table.{table}
+use Rattle.answer.specs.Answer.{Answer, refused, answered, and-then, mapped}
 use Rattle.smoothing.specs.Backward.{Results, listed, in-front, back, pass, BeforeLast, this, later, Same, last, slot}
-use Rattle.matrix.proofs.Answers.{differ, same-refusal, same-answer}
+use Rattle.answer.proofs.Answers.{differ, same-refusal, same-answer}
 
 -- one step back, whatever stands after it
 module _ {G P : Type 0} where

@@ -2,7 +2,7 @@
 use mathlib.Core.Path.{_≡_, refl, sym, ap, ap₂, _∙_}
 use mathlib.Core.List.{List}
 use Prim.Native.Nat.{ℕ}
-use Rattle.matrix.specs.Answer.{Answer}
+use Rattle.answer.specs.Answer.{Answer}
 use Rattle.matrix.specs.Matrix.{Matrix}
 use Rattle.kalman_step.specs.Kalman.{Estimate}
 use Rattle.smoothing.specs.Smoother.{Slot, Duty, smoothed, smooth}

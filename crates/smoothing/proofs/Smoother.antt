@@ -4,9 +4,9 @@ use mathlib.Core.Logic.{_⊎_, inl, inr}
 use mathlib.Core.List.{List, [], _∷_, _++_, map}
 use Prim.Native.Nat.{ℕ, _<_}
 use lib.ListN.{length, take, drop, take-append-drop}
-use Rattle.matrix.specs.Answer.{Answer, refused, answered, mapped}
+use Rattle.answer.specs.Answer.{Answer, refused, answered, mapped}
 use Rattle.matrix.specs.Matrix.{Matrix, mul, add, sub, transpose}
-use Rattle.matrix.proofs.Answers.{same-refusal, same-answer, mapped-refused, refused-mapped}
+use Rattle.answer.proofs.Answers.{same-refusal, same-answer, mapped-refused, refused-mapped}
 use Rattle.inverse.specs.Inverse.{inv}
 use Rattle.inverse.proofs.Laws.{inv-refused}
 use Rattle.kalman_step.specs.Kalman.{Estimate, gain}

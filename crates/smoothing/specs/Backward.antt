@@ -2,7 +2,7 @@
 -- The last slot's result is `start` of it. An earlier slot's is `move` of it, of its gain, and of the result of the slot after it; where the slot has no gain, the pass is refused.
 use mathlib.Core.Path.{_≡_}
 use mathlib.Core.List.{List, [], _∷_}
-use Rattle.matrix.specs.Answer.{Answer, refused, answered, and-then, mapped}
+use Rattle.answer.specs.Answer.{Answer, refused, answered, and-then, mapped}
 
 -- at least one result: that of the first slot, and those of the later ones
 pub record Results (P : Type 0) : Type 0 where

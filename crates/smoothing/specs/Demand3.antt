@@ -4,7 +4,7 @@ use mathlib.Core.Logic.{_↔_, _⊎_}
 use mathlib.Core.List.{List, [], _∷_, _++_, map}
 use Prim.Native.Nat.{ℕ, _<_}
 use lib.ListN.{length, drop}
-use Rattle.matrix.specs.Answer.{Answer, refused, answered, mapped}
+use Rattle.answer.specs.Answer.{Answer, refused, answered, mapped}
 use Rattle.matrix.specs.Matrix.{Matrix}
 use Rattle.inverse.specs.Inverse.{inv}
 use Rattle.kalman_step.specs.Kalman.{Estimate}

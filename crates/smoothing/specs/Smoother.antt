@@ -1,7 +1,7 @@
 -- The smoother of Rauch, Tung and Striebel, for any state size and any number of slots, in the order of rounding of rts_smoother.rs. Definitions only.
 use Prim.Native.Nat.{ℕ}
 use mathlib.Core.List.{List}
-use Rattle.matrix.specs.Answer.{Answer, mapped}
+use Rattle.answer.specs.Answer.{Answer, mapped}
 use Rattle.matrix.specs.Matrix.{Vector, Matrix, mul, matvec, add, sub, transpose, vecAdd, vecSub}
 use Rattle.inverse.specs.Inverse.{inv}
 use Rattle.kalman_step.specs.Kalman.{Estimate, gain}

@@ -1,8 +1,8 @@
 // src/core/matrix.rs at f64, the functions on vectors: vectors of at most 4 components as arrays by value, with
 // the used size beside them. Components outside are ignored on entry and +0 in a result.
+use answer::Status;
 use matrix::MatrixResult;
 use matrix::ScalarResult;
-use matrix::Status;
 use matrix::VectorResult;
 use matrix::is_applicable;
 use matrix::is_paired;
@@ -17,7 +17,7 @@ use matrix::vector_result;
 use scalar::ControlScalar;
 ghost use mathlib.Core.Path.{_≡_};
 ghost use Prim.Native.Nat.{_≤_};
-ghost use Rattle.matrix.specs.Answer.{where-sized};
+ghost use Rattle.answer.specs.Answer.{where-sized};
 ghost use Rattle.matrix.specs.Matrix.{matvec as matvecOf, outer as outerOf, vecAdd, vecSub, vecScale, dot, vecNorm};
 ghost use Rattle.matrix.specs.Array.{cut, used, pad};
 ghost use Rattle.matrix.specs.Result.{asMatrix, asVector, asScalar, sized, shaped};

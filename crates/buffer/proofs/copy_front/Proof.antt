@@ -4,7 +4,7 @@ use Prim.Native.Nat.{_-_}
 use native.Mathlib.Omega.{arith}
 use lib.ListN.{length}
 use borrow.Author.Tests.{le-leb, lt-leb}
-use Rattle.scalar.proofs.Choice.{cond-true, cond-false}
+use Rattle.answer.proofs.Choice.{cond-true, cond-false}
 use Rattle.buffer.proofs.Places.{Copying, copying-none, copying-more, copying-all}
 use Rattle.buffer.proofs.copy_front.Statement.{statement}
 use Rattle.buffer.proofs.copy_front.Tie as tie

@@ -1,7 +1,7 @@
 -- `put_matrix` meets its contract.
 use mathlib.Core.Path.{sym, _∙_}
 use borrow.Author.Needs.{needs}
-use Rattle.scalar.proofs.Choice.{cond-true, cond-false}
+use Rattle.answer.proofs.Choice.{cond-true, cond-false}
 use Rattle.buffer.proofs.Calls.{matrix-room}
 use Rattle.buffer.proofs.put_matrix.Statement.{statement}
 use Rattle.buffer.proofs.put_matrix.Tie as tie

@@ -5,7 +5,7 @@ use Prim.Native.Nat.{_+_, _*_}
 use native.Mathlib.Omega.{arith}
 use lib.ListN.{length}
 use borrow.Author.Needs.{needs}
-use Rattle.scalar.proofs.Choice.{cond-true, cond-false}
+use Rattle.answer.proofs.Choice.{cond-true, cond-false}
 use Rattle.matrix.specs.Result.{sized}
 use Rattle.matrix.proofs.Arrays.{length-cut}
 use Rattle.buffer.specs.Buffer.{room}

@@ -1,7 +1,7 @@
 -- `put_vector` meets its contract.
 use mathlib.Core.Path.{sym, _∙_}
 use borrow.Author.Needs.{needs}
-use Rattle.scalar.proofs.Choice.{cond-true, cond-false}
+use Rattle.answer.proofs.Choice.{cond-true, cond-false}
 use Rattle.buffer.proofs.Calls.{vector-room}
 use Rattle.buffer.proofs.put_vector.Statement.{statement}
 use Rattle.buffer.proofs.put_vector.Tie as tie

@@ -2,7 +2,7 @@
 use mathlib.Core.Path.{refl}
 use Prim.Native.Nat.{_+_, _*_, _-_}
 use native.Mathlib.Omega.{arith}
-use Rattle.matrix.specs.Table.{table}
+use Rattle.answer.specs.Table.{table}
 use Rattle.matrix.specs.Matrix.{at}
 use Rattle.matrix.proofs.Arrays.{Rows, rows-none, rows-more, rows-all}
 use Rattle.buffer.proofs.Places.{ends-within}

@@ -3,7 +3,7 @@ use Prim.Native.Nat.{_-_}
 use mathlib.Core.Path.{sym, ap, _∙_}
 use native.Mathlib.Omega.{arith}
 use borrow.Author.Needs.{needs}
-use Rattle.matrix.specs.declared.Status.the-variants.{Done}
+use Rattle.answer.specs.declared.Status.the-variants.{Done}
 use Rattle.matrix.specs.Result.{matrixResult, asMatrix}
 use Rattle.matrix.proofs.Results.{answered-value, refused-number}
 use Rattle.matrix.proofs.Vectors.{dot-sized}

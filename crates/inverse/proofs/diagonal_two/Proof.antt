@@ -1,10 +1,10 @@
 -- `diagonal_two` meets its contract: the definition at 2 from the first column's pivot on, written out, by the two tests of a pivot.
 use mathlib.Core.Path.{sym, ap, _∙_}
 use borrow.Author.Needs.{needs}
-use Rattle.scalar.proofs.Choice.{cond-true, cond-false}
+use Rattle.answer.proofs.Choice.{cond-true, cond-false}
 use Rattle.matrix.specs.Array.{pad}
 use Rattle.matrix.specs.Result.{asMatrix}
-use Rattle.matrix.proofs.Answers.{if-true, if-false}
+use Rattle.answer.proofs.Answers.{if-true, if-false}
 use Rattle.inverse.specs.Two.{inRows}
 use Rattle.inverse.proofs.Two.{diagonal-is}
 use Rattle.inverse.proofs.diagonal_two.Statement.{statement}

@@ -2,7 +2,7 @@
 use mathlib.Core.Path.{sym, ap, _∙_}
 use borrow.Author.Needs.{needs}
 use Rattle.matrix.specs.Result.{asScalar}
-use Rattle.matrix.proofs.Answers.{if-true, if-false}
+use Rattle.answer.proofs.Answers.{if-true, if-false}
 use Rattle.inverse.specs.Two.{reciprocal}
 use Rattle.inverse.proofs.inverse_number.Statement.{statement}
 use Rattle.inverse.proofs.inverse_number.Tie as tie

@@ -1,7 +1,7 @@
 -- `inverse_one` meets its contract: by what the inversion of one number answers.
 use mathlib.Core.Path.{sym, ap, _∙_}
 use borrow.Author.Needs.{needs}
-use Rattle.matrix.specs.Answer.{mapped}
+use Rattle.answer.specs.Answer.{mapped}
 use Rattle.matrix.specs.Array.{pad}
 use Rattle.matrix.specs.Result.{asMatrix}
 use Rattle.matrix.proofs.Results.{answered-value, refused-number}

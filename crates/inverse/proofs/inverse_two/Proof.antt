@@ -1,7 +1,7 @@
 -- `inverse_two` meets its contract: by the test of the two magnitudes, the rows stay or change places.
 use mathlib.Core.Path.{sym, ap, _∙_}
 use borrow.Author.Needs.{needs}
-use Rattle.scalar.proofs.Choice.{cond-true, cond-false}
+use Rattle.answer.proofs.Choice.{cond-true, cond-false}
 use Rattle.matrix.specs.Result.{asMatrix}
 use Rattle.inverse.proofs.Two.{two-is}
 use Rattle.inverse.proofs.inverse_two.Statement.{statement}

@@ -4,7 +4,7 @@ use mathlib.Core.List.{List, [], _∷_}
 use Prim.Native.Nat.{ℕ}
 use lib.Ieee.{Float}
 use borrow.Author.Needs.{needs}
-use Rattle.matrix.specs.declared.Status.{Status}
+use Rattle.answer.specs.declared.Status.{Status}
 use Rattle.matrix.specs.Matrix.{Matrix, row}
 use Rattle.matrix.specs.Array.{cut, used, padRow}
 use Rattle.matrix.specs.Result.{matrixResult, sized, sizeOrFour}

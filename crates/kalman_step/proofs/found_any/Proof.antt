@@ -2,7 +2,7 @@
 use mathlib.Core.Path.{sym, ap, _∙_}
 use mathlib.Core.List.{List}
 use lib.Ieee.{Float}
-use Rattle.matrix.specs.Answer.{answered}
+use Rattle.answer.specs.Answer.{answered}
 use Rattle.matrix.specs.Array.{used}
 use Rattle.matrix.proofs.Results.{size-of}
 use Rattle.kalman_step.specs.Step.{foundOf}

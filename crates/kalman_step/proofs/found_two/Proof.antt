@@ -1,7 +1,7 @@
 -- `found_two` meets its contract: by what the inversion of one number answers.
 use mathlib.Core.Path.{_≡_, sym, ap, _∙_}
 use lib.Ieee.{Float}
-use Rattle.matrix.specs.Answer.{Answer, mapped}
+use Rattle.answer.specs.Answer.{Answer, mapped}
 use Rattle.matrix.specs.Matrix.{Matrix}
 use Rattle.matrix.proofs.Results.{answered-value, refused-number}
 use Rattle.inverse.specs.Inverse.{inv}

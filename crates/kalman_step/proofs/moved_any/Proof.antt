@@ -1,6 +1,6 @@
 -- `moved_any` meets its contract.
 use mathlib.Core.Path.{ap, _∙_}
-use Rattle.matrix.specs.declared.Status.the-variants.{Done}
+use Rattle.answer.specs.declared.Status.the-variants.{Done}
 use Rattle.matrix.specs.Kernel.{flatOfRows}
 use Rattle.matrix.proofs.Results.{size-of}
 use Rattle.kalman_step.specs.Kalman.{predict}

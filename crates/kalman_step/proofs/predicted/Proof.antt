@@ -1,7 +1,7 @@
 -- `predicted` meets its contract: by the tests of the sizes.
 use mathlib.Core.Path.{refl, sym, ap, ap₂, _∙_}
 use Prim.Native.Nat.{ℕ}
-use Rattle.matrix.specs.declared.Status.the-variants.{Done}
+use Rattle.answer.specs.declared.Status.the-variants.{Done}
 use Rattle.matrix.specs.Matrix.{matvec, vecAdd}
 use Rattle.matrix.specs.Array.{cut, usedFlat, padRow}
 use Rattle.matrix.proofs.Results.{as-answered, as-refused}

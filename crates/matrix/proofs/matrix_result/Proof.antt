@@ -33,9 +33,9 @@ use denote.Triple.Table.{entered}
 use denote.Triple.Walked.{says, Stays, stay-none, walkOf, goes-none, Walks, ends-at, walked, walk-meets}
 use denote.Exit.{yes}
 use Rattle.matrix.specs.declared.MatrixResult.{MatrixResult}
-use Rattle.matrix.specs.declared.Status.{Status}
-use Rattle.matrix.proofs.Status as N
-use Rattle.matrix.proofs.Status.Laws as N′
+use Rattle.answer.specs.declared.Status.{Status}
+use Rattle.answer.proofs.Status as N
+use Rattle.answer.proofs.Status.Laws as N′
 use Rattle.matrix.proofs.MatrixResult as T
 use Rattle.matrix.proofs.MatrixResult.Laws as T′
 use Rattle.matrix.proofs.matrix_result.Key.{name as #matrix·matrix-result}

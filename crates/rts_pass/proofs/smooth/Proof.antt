@@ -4,7 +4,7 @@ use native.Mathlib.Omega.{arith}
 use lib.ListN.{length, take}
 use borrow.Author.Needs.{needs}
 use borrow.Author.Tests.{le-leb}
-use Rattle.scalar.proofs.Choice.{cond-true}
+use Rattle.answer.proofs.Choice.{cond-true}
 use Rattle.rts_pass.proofs.Sizes.{Smoothable, smoothable-of, output-small, passable}
 use Rattle.rts_pass.proofs.Outputs.{smooth-unsized, smooth-none, smooth-stopped, smooth-done}
 use Rattle.rts_pass.proofs.smooth.Statement.{statement}

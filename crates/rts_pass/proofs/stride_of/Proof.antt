@@ -2,7 +2,7 @@
 use mathlib.Core.Path.{sym, _∙_}
 use native.Mathlib.Omega.{arith}
 use borrow.Author.Needs.{needs}
-use Rattle.scalar.proofs.Choice.{cond-true, cond-false}
+use Rattle.answer.proofs.Choice.{cond-true, cond-false}
 use Rattle.matrix.proofs.Results.{Size, size-of}
 use Rattle.rts_pass.specs.Buffer.{stride}
 use Rattle.rts_pass.proofs.Sizes.{square-small}

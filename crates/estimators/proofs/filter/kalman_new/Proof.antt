@@ -5,7 +5,7 @@ use Prim.Native.Nat.{ℕ}
 use native.Mathlib.Omega.{arith}
 use lib.ListN.{length}
 use borrow.Author.Needs.{needs}
-use Rattle.scalar.proofs.Choice.{and-left, and-right}
+use Rattle.answer.proofs.Choice.{and-left, and-right}
 use Rattle.buffer.specs.Buffer.{left}
 use Rattle.estimators.specs.Slices.{written}
 use Rattle.estimators.specs.Filter.{isFilter, isParts}

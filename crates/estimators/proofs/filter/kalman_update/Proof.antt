@@ -4,7 +4,7 @@ use mathlib.Core.Bool.{Bool, true, _&&_}
 use native.Mathlib.Omega.{arith}
 use lib.ListN.{length}
 use borrow.Author.Needs.{needs}
-use Rattle.scalar.proofs.Choice.{and-left, and-right}
+use Rattle.answer.proofs.Choice.{and-left, and-right}
 use Rattle.matrix.proofs.Results.{sized-true}
 use Rattle.matrix.proofs.Arrays.{length-cut}
 use Rattle.buffer.proofs.Calls.{vector-put}

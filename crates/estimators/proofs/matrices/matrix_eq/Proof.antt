@@ -3,7 +3,7 @@ use mathlib.Core.Path.{sym, ap, ap₂, _∙_}
 use borrow.Author.Needs.{needs}
 use Rattle.matrix.specs.Result.{asTest}
 use Rattle.matrix.specs.Matrix.{Matrix, equal}
-use Rattle.matrix.specs.Answer.{answered}
+use Rattle.answer.specs.Answer.{answered}
 use Rattle.estimators.specs.Slices.{rows, written}
 use Rattle.estimators.proofs.Ways.{alike-true, refuses-where, rows-read, test-out, two-of, where-true}
 use Rattle.estimators.proofs.matrices.matrix_eq.Statement.{statement}

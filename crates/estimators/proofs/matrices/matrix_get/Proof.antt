@@ -1,7 +1,7 @@
 -- `matrix_get` meets its contract.
 use mathlib.Core.Path.{sym, ap, _∙_}
 use borrow.Author.Needs.{needs}
-use Rattle.matrix.specs.Answer.{where-sized}
+use Rattle.answer.specs.Answer.{where-sized}
 use Rattle.matrix.specs.Matrix.{Matrix, cell}
 use Rattle.matrix.specs.Result.{asScalar, inside}
 use Rattle.estimators.specs.Slices.{rows, written}

@@ -3,7 +3,7 @@ use mathlib.Core.Path.{sym, ap, ap₂, _∙_}
 use borrow.Author.Needs.{needs}
 use Rattle.matrix.proofs.Matrices.{shape-mul}
 use Rattle.matrix.specs.Result.{asMatrix}
-use Rattle.matrix.specs.Answer.{answered}
+use Rattle.answer.specs.Answer.{answered}
 use Rattle.matrix.proofs.Results.{chained-true}
 use Rattle.matrix.specs.Matrix.{Matrix, mul}
 use Rattle.estimators.specs.Slices.{rows, wrote}

@@ -4,7 +4,7 @@ use borrow.Author.Needs.{needs}
 use Rattle.matrix.proofs.Vectors.{length-matvec}
 use Rattle.matrix.specs.Result.{asVector}
 use Rattle.matrix.specs.Matrix.{Vector, Matrix, matvec}
-use Rattle.matrix.specs.Answer.{answered}
+use Rattle.answer.specs.Answer.{answered}
 use Rattle.estimators.specs.Slices.{rows, written}
 use Rattle.estimators.proofs.Ways.{applicable-true, numbers-read, refuses-where, rows-read, three-of, vector-out, where-true}
 use Rattle.estimators.proofs.matrices.matrix_matvec.Statement.{statement}

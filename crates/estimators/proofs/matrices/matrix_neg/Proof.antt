@@ -4,7 +4,7 @@ use borrow.Author.Needs.{needs}
 use Rattle.matrix.proofs.Results.{shaped-true}
 use Rattle.matrix.proofs.Matrices.{shape-negated}
 use Rattle.matrix.specs.Result.{asMatrix}
-use Rattle.matrix.specs.Answer.{answered}
+use Rattle.answer.specs.Answer.{answered}
 use Rattle.matrix.specs.Matrix.{Matrix, negated}
 use Rattle.estimators.specs.Slices.{rows, wrote}
 use Rattle.estimators.proofs.Ways.{matrix-out-where, refuses-where, rows-read, two-of, where-true}

@@ -5,7 +5,7 @@ use Rattle.matrix.proofs.Results.{shaped-true}
 use Rattle.matrix.specs.Result.{asMatrix}
 use Rattle.matrix.specs.Matrix.{Vector, outer}
 use Rattle.matrix.proofs.Vectors.{shape-outer}
-use Rattle.matrix.specs.Answer.{answered}
+use Rattle.answer.specs.Answer.{answered}
 use Rattle.estimators.specs.Slices.{wrote}
 use Rattle.estimators.proofs.Ways.{matrix-out-where, numbers-read, refuses-where, three-of, where-true}
 use Rattle.estimators.proofs.matrices.matrix_outer.Statement.{statement}

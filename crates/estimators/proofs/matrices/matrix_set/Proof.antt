@@ -1,7 +1,7 @@
 -- `matrix_set` meets its contract.
 use mathlib.Core.Path.{sym, ap, _∙_}
 use borrow.Author.Needs.{needs}
-use Rattle.matrix.specs.Answer.{where-sized}
+use Rattle.answer.specs.Answer.{where-sized}
 use Rattle.matrix.specs.Matrix.{Matrix, set}
 use Rattle.matrix.specs.Result.{asMatrix, inside}
 use Rattle.matrix.proofs.Matrices.{shape-set}

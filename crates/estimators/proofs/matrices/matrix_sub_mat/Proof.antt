@@ -4,7 +4,7 @@ use borrow.Author.Needs.{needs}
 use Rattle.matrix.specs.Matrix.{Matrix, sub}
 use Rattle.matrix.proofs.Kernels.{shape-sub}
 use Rattle.matrix.specs.Result.{asMatrix}
-use Rattle.matrix.specs.Answer.{answered}
+use Rattle.answer.specs.Answer.{answered}
 use Rattle.estimators.specs.Slices.{rows, wrote}
 use Rattle.estimators.proofs.Ways.{alike-true, matrix-out-where, refuses-where, rows-read, three-of, where-true}
 use Rattle.estimators.proofs.matrices.matrix_sub_mat.Statement.{statement}

@@ -5,7 +5,7 @@ use Rattle.matrix.proofs.Results.{shaped-true}
 use Rattle.matrix.specs.Matrix.{Matrix, transpose}
 use Rattle.matrix.specs.Result.{asMatrix}
 use Rattle.matrix.proofs.Matrices.{shape-transpose}
-use Rattle.matrix.specs.Answer.{answered}
+use Rattle.answer.specs.Answer.{answered}
 use Rattle.estimators.specs.Slices.{rows, wrote}
 use Rattle.estimators.proofs.Ways.{matrix-out-where, refuses-where, rows-read, two-of, where-true}
 use Rattle.estimators.proofs.matrices.matrix_transpose.Statement.{statement}

@@ -3,7 +3,7 @@ use mathlib.Core.Path.{sym, ap, ap₂, _∙_}
 use borrow.Author.Needs.{needs}
 use Rattle.matrix.specs.Result.{asVector}
 use Rattle.matrix.specs.Matrix.{Vector, vecAdd}
-use Rattle.matrix.specs.Answer.{answered}
+use Rattle.answer.specs.Answer.{answered}
 use Rattle.matrix.proofs.Vectors.{length-vecAdd}
 use Rattle.estimators.specs.Slices.{written}
 use Rattle.estimators.proofs.Ways.{numbers-read, paired-true, refuses-where, three-of, vector-out, where-true}

@@ -2,7 +2,7 @@
 use mathlib.Core.Path.{sym, ap, ap₂, _∙_}
 use borrow.Author.Needs.{needs}
 use Rattle.matrix.specs.Matrix.{Vector, dot}
-use Rattle.matrix.specs.Answer.{answered}
+use Rattle.answer.specs.Answer.{answered}
 use Rattle.matrix.specs.Result.{asScalar}
 use Rattle.estimators.specs.Slices.{written}
 use Rattle.estimators.proofs.Ways.{numbers-read, paired-true, refuses-where, scalar-out, two-of, where-true}

@@ -5,7 +5,7 @@ use Rattle.matrix.proofs.Results.{sized-true}
 use Rattle.matrix.specs.Matrix.{Vector, vecScale}
 use Rattle.matrix.specs.Result.{asVector}
 use Rattle.matrix.proofs.Vectors.{length-vecScale}
-use Rattle.matrix.specs.Answer.{answered}
+use Rattle.answer.specs.Answer.{answered}
 use Rattle.estimators.specs.Slices.{written}
 use Rattle.estimators.proofs.Ways.{numbers-read, refuses-where, two-of, vector-out, where-true}
 use Rattle.estimators.proofs.matrices.matrix_vec_scale.Statement.{statement}

@@ -4,7 +4,7 @@ use borrow.Author.Needs.{needs}
 use Rattle.matrix.specs.Result.{asVector}
 use Rattle.matrix.specs.Matrix.{Vector, vecSub}
 use Rattle.matrix.proofs.Vectors.{length-vecSub}
-use Rattle.matrix.specs.Answer.{answered}
+use Rattle.answer.specs.Answer.{answered}
 use Rattle.estimators.specs.Slices.{written}
 use Rattle.estimators.proofs.Ways.{numbers-read, paired-true, refuses-where, three-of, vector-out, where-true}
 use Rattle.estimators.proofs.matrices.matrix_vec_sub.Statement.{statement}

@@ -9,7 +9,7 @@ use borrow.Author.Needs.{needs}
 use borrow.Author.Tests.{eq-eqb, ne-eqb}
 use Rattle.scalar.specs.Number.{+0}
 use Rattle.scalar.specs.declared.Constants.{Constants}
-use Rattle.matrix.specs.Answer.{where-sized}
+use Rattle.answer.specs.Answer.{where-sized}
 use Rattle.matrix.specs.Array.{cut}
 use Rattle.matrix.proofs.Arrays.{length-cut}
 use Rattle.matrix.proofs.Results.{size}

@@ -3,7 +3,7 @@ use mathlib.Core.Path.{sym, _∙_}
 use native.Mathlib.Omega.{arith}
 use borrow.Author.Needs.{needs}
 use borrow.Author.Tests.{ne-eqb}
-use Rattle.scalar.proofs.Choice.{cond-false}
+use Rattle.answer.proofs.Choice.{cond-false}
 use Rattle.estimators.proofs.Smoothers.{slot-told, slot-copied, slot-unsized}
 use Rattle.estimators.proofs.smoother.rts_smoother_get_state.Statement.{statement}
 use Rattle.estimators.proofs.smoother.rts_smoother_get_state.Tie as tie

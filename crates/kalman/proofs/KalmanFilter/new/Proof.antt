@@ -1,6 +1,6 @@
 -- `KalmanFilter::new` meets its contract.
 use mathlib.Core.Path.{sym, _∙_}
-use Rattle.matrix.specs.declared.Status.the-variants.{Refused}
+use Rattle.answer.specs.declared.Status.the-variants.{Refused}
 use Rattle.kalman.specs.Record.{noFilter}
 use Rattle.kalman.proofs.Records.{new-done, step-refused}
 use borrow.Author.Needs.{needs}

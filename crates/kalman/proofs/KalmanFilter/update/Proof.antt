@@ -1,5 +1,5 @@
 -- `KalmanFilter::update` meets its contract.
-use Rattle.matrix.specs.Answer.{if-sized}
+use Rattle.answer.specs.Answer.{if-sized}
 use Rattle.matrix.specs.Array.{cut}
 use Rattle.kalman_step.specs.Kalman.{update, correction}
 use Rattle.kalman_step.specs.Step.{fitting}

@@ -5,7 +5,7 @@ use mathlib.Core.List.{List, [], _∷_}
 use lib.ListN.{replicate}
 use lib.Ieee.{Float}
 use Rattle.scalar.specs.Number.{_⊗_, +0}
-use Rattle.matrix.specs.Table.{table}
+use Rattle.answer.specs.Table.{table}
 use Rattle.matrix.specs.Matrix.{cell, sum}
 use Rattle.matrix.specs.Array.{padRow}
 use Rattle.matrix.specs.Kernel.{rowTimes}

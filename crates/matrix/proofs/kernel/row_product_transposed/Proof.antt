@@ -1,5 +1,5 @@
 -- `kernel::row_product_transposed` meets its contract: the columns of b are combined.
-use Rattle.matrix.specs.Table.{table}
+use Rattle.answer.specs.Table.{table}
 use Rattle.matrix.specs.Matrix.{cell}
 use Rattle.matrix.specs.Kernel.{rowTimesTransposed}
 use Rattle.matrix.proofs.Arrays.{combination-is}

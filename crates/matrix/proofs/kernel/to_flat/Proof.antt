@@ -4,7 +4,7 @@ use mathlib.Core.Path.{refl}
 use Rattle.scalar.specs.Number.{+0}
 use Rattle.matrix.specs.Matrix.{cell}
 use Rattle.matrix.specs.Kernel.{flatOfRows}
-use Rattle.matrix.proofs.Tables.{Filling, filling-none, filling-more, filling-all}
+use Rattle.answer.proofs.Tables.{Filling, filling-none, filling-more, filling-all}
 use native.Mathlib.Omega.{arith}
 use Rattle.matrix.proofs.kernel.to_flat.Statement.{statement}
 use Rattle.matrix.proofs.kernel.to_flat.Tie as tie

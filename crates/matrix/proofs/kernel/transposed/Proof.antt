@@ -1,7 +1,7 @@
 -- `kernel::transposed` meets its contract: a loop over the columns, each of which becomes a row.
 use Prim.Native.Nat.{_-_}
 use mathlib.Core.Path.{sym, _∙_}
-use Rattle.matrix.specs.Table.{table}
+use Rattle.answer.specs.Table.{table}
 use Rattle.matrix.specs.Matrix.{cell}
 use Rattle.matrix.proofs.Arrays.{Rows, rows-none, rows-more, rows-all, kept-row, transpose-used}
 use Rattle.matrix.proofs.Results.{Sizes, sizes-of}

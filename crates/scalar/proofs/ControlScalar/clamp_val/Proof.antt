@@ -1,7 +1,7 @@
 -- `ControlScalar::clamp_val` meets its contract: each way out is the choice that its tests make.
 use mathlib.Core.Path.{sym, _∙_}
 use Rattle.scalar.specs.Number.{clamp}
-use Rattle.scalar.proofs.Choice.{cond-true, cond-false}
+use Rattle.answer.proofs.Choice.{cond-true, cond-false}
 use Rattle.scalar.proofs.ControlScalar.clamp_val.Statement.{statement}
 use Rattle.scalar.proofs.ControlScalar.clamp_val.Tie as tie
 

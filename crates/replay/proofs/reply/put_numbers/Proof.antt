@@ -3,8 +3,8 @@ use Prim.Native.Nat.{_-_}
 use borrow.Author.Needs.{needs}
 use lib.ListN.{length}
 use mathlib.Core.Path.{_≡_}
-use Rattle.replay.proofs.answer.put_numbers.Statement.{statement}
-use Rattle.replay.proofs.answer.put_numbers.Tie as tie
+use Rattle.replay.proofs.reply.put_numbers.Statement.{statement}
+use Rattle.replay.proofs.reply.put_numbers.Tie as tie
 
 abbrev Inv-loop : tie.InvT-loop
 Inv-loop out₀ at v to₀ i₀ out to i = length out ≡ length out₀

@@ -3,8 +3,8 @@ use Prim.Native.Nat.{_-_}
 use mathlib.Core.Path.{_≡_}
 use lib.ListN.{length}
 use borrow.Author.Needs.{needs}
-use Rattle.replay.proofs.answer.put_text.Statement.{statement}
-use Rattle.replay.proofs.answer.put_text.Tie as tie
+use Rattle.replay.proofs.reply.put_text.Statement.{statement}
+use Rattle.replay.proofs.reply.put_text.Tie as tie
 
 abbrev Inv-loop : tie.InvT-loop
 Inv-loop out₀ at text to₀ i₀ out to i = length out ≡ length out₀

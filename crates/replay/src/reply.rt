@@ -1,8 +1,8 @@
 // Writes an answer line into a lent buffer of bytes. Each function takes the place of the next byte and gives
 // the place after; what does not fit is dropped, and the place stays at the buffer's end.
+use answer::Status;
 use matrix::MatrixResult;
 use matrix::ScalarResult;
-use matrix::Status;
 use matrix::TestResult;
 use matrix::VectorResult;
 
