@@ -1,3 +1,4 @@
 pub mod Abs
 pub mod Epsilon
 pub mod Product
+pub mod Sum
