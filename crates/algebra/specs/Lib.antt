@@ -1,0 +1,6 @@
+pub mod Matrix
+pub mod Array
+pub mod Inverse
+pub mod Cholesky
+pub mod Values
+pub mod Cases
