@@ -1,3 +1,1 @@
-pub mod Padding
-pub mod Laws
 pub mod Loops

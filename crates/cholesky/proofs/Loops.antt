@@ -10,14 +10,14 @@ use lib.Ieee.{Float, nan}
 use Rattle.scalar.specs.Number.{_⊖_, _⊘_, +0}
 use Rattle.answer.specs.Answer.{Answer, refused, answered, and-then, mapped}
 use Rattle.answer.specs.Table.{padTo}
-use Rattle.matrix.specs.Matrix.{Vector, Matrix, at, row, cell, dot}
-use Rattle.matrix.specs.Array.{padRow, pad}
-use Rattle.answer.proofs.Tables.{getD-padTo}
-use Rattle.matrix.proofs.Matrices.{Shape}
-use Rattle.matrix.proofs.Vectors.{dot-ext}
-use Rattle.cholesky.specs.Cholesky.{diagonalOf, leftCells, factorRow, factorRows, choleskyOf}
-use Rattle.cholesky.proofs.Padding.{set-padTo, padTo-padTo, set-pad, cell-pad}
-use Rattle.cholesky.proofs.Laws.{length-left, left-ext, shape-rows}
+use Rattle.algebra.specs.Matrix.{Vector, Matrix, at, row, cell, dot}
+use Rattle.algebra.specs.Array.{used, padRow, pad}
+use Rattle.answer.proofs.Tables.{getD-padTo, set-padTo, padTo-padTo}
+use Rattle.algebra.proofs.Matrices.{Shape}
+use Rattle.algebra.proofs.Vectors.{dot-ext}
+use Rattle.algebra.specs.Cholesky.{diagonalOf, leftCells, factorRow, factorRows, choleskyOf}
+use Rattle.algebra.proofs.Arrays.{set-pad, cell-pad}
+use Rattle.algebra.proofs.Factors.{length-left, left-ext, shape-rows, cholesky-used}
 
 -- The loop over a row has made the first j of its i cells left of the diagonal: its invariant
 pub record Lefts (a : Vector) (L : Matrix) (i j : ℕ) (v : List Float) : Type 0 where
@@ -55,17 +55,18 @@ lefts-all {a} {L} {i} {j} e h = let same : j ≡ i = omega arith in e .is ∙ ap
 
 -- The loop over the rows has stored the first i rows of the factor of a: its invariant
 pub record Factoring (n : ℕ) (a : Matrix) (i : ℕ) (l : List (List Float)) : Type 0 where
+  pub most : n ≤ 4
   pub within : i ≤ n
   pub rows : Matrix
   pub so-far : factorRows n a i ≡ answered rows
   pub is : l ≡ pad rows
 
-pub factoring-none : (n : ℕ) (a : Matrix) → Factoring n a 0 (replicate 4 (replicate 4 +0))
+pub factoring-none : (n : ℕ) (a : Matrix) → n ≤ 4 → Factoring n a 0 (replicate 4 (replicate 4 +0))
 unfolding factorRows pad
-factoring-none n a = record { within = omega arith; rows = []; so-far = refl; is = refl }
+factoring-none n a h = record { most = h; within = omega arith; rows = []; so-far = refl; is = refl }
 
 -- A turn: v is row i left of its diagonal as the code makes it from the array, and s the sum of its squares
-module _ {n : ℕ} {a : Matrix} {i : ℕ} {l : List (List Float)} (e : Factoring n a i l) (hn : n ≤ 4) (hi : i < n)
+module _ {n : ℕ} {a : Matrix} {i : ℕ} {l : List (List Float)} (e : Factoring n a i l) (hi : i < n)
     {v : List Float} {s : Float} (p : v ≡ padRow (leftCells (row a i) l i)) (q : s ≡ dot i v v) where
   abbrev L : Matrix
   L = e .rows
@@ -104,8 +105,9 @@ module _ {n : ℕ} {a : Matrix} {i : ℕ} {l : List (List Float)} (e : Factoring
       let w = left ++ x ∷ [] in
       let r = padTo n +0 w in
       let room : length w ≤ n = omega (arith, length-append left (x ∷ []), length-left (row a i) L i) in
-      let stored : set v i x ≡ padRow r = (λ t. set (same-left t) i x) ∙ set-left (row a i) L i x (omega arith) ∙ sym (padTo-padTo 4 n +0 w room hn) in
+      let stored : set v i x ≡ padRow r = (λ t. set (same-left t) i x) ∙ set-left (row a i) L i x (omega arith) ∙ sym (padTo-padTo 4 n +0 w room (e .most)) in
       record {
+        most = e .most;
         within = omega arith;
         rows = L ++ r ∷ [];
         so-far = next d;
@@ -126,3 +128,7 @@ module _ {n : ℕ} {a : Matrix} {i : ℕ} {l : List (List Float)} (e : Factoring
 pub factoring-all : {n : ℕ} {a : Matrix} {i : ℕ} {l : List (List Float)} (e : Factoring n a i l) → n ≤ i → choleskyOf n a ≡ answered (e .rows)
 unfolding choleskyOf
 factoring-all {n} {a} {i} e h = let same : n ≡ i = omega arith in ap (factorRows n a) same ∙ e .so-far
+
+-- what the loop has made of the whole array for k rows is the factor of the used part, where k is n
+pub factor-at : {k n : ℕ} (a : Matrix) {o : Answer Matrix} → k ≡ n → choleskyOf k a ≡ o → choleskyOf n (used n n a) ≡ o
+factor-at {k} {n} a e p = cholesky-used n a ∙ ap (λ (m : ℕ). choleskyOf m a) (sym e) ∙ p

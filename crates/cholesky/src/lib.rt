@@ -3,15 +3,17 @@
 use answer::Status;
 use matrix::MatrixResult;
 use matrix::ScalarResult;
+use matrix::Size;
 use matrix::kernel;
 use scalar::ControlScalar;
 ghost use mathlib.Core.Path.{_≡_};
-ghost use Prim.Native.Nat.{_≤_, _<_};
+ghost use Prim.Native.Nat.{_<_};
 ghost use Rattle.answer.specs.Answer.{if-sized};
-ghost use Rattle.matrix.specs.Matrix.{row};
-ghost use Rattle.matrix.specs.Array.{used, padRow};
-ghost use Rattle.matrix.specs.Result.{asMatrix, asScalar, sized};
-ghost use Rattle.cholesky.specs.Cholesky.{diagonalOf, leftCells, choleskyOf};
+ghost use Rattle.algebra.specs.Matrix.{row};
+ghost use Rattle.algebra.specs.Array.{used, padRow};
+ghost use Rattle.algebra.specs.Cholesky.{diagonalOf, leftCells, choleskyOf};
+ghost use Rattle.matrix.specs.Size.{count, part, sized};
+ghost use Rattle.matrix.specs.Result.{asMatrix, asScalar};
 
 // The root of what is left of a diagonal cell. At or below zero it is refused with 4; a NaN passes.
 pub fn diagonal_root(d: f64) -> ScalarResult
@@ -37,13 +39,13 @@ fn left_cells<'a>(a: &'a [[f64; 4]; 4], l: &'a [[f64; 4]; 4], i: usize) -> [f64;
     v
 }
 
-// Row after row, each from the rows above it.
-fn factor_rows(a: &[[f64; 4]; 4], n: usize) -> MatrixResult
-    requires { ⌜ n ≤ 4 ⌝ }
-    ensures { λ r. ⌜ r ≡ asMatrix (choleskyOf n (used n n (now (a .entry)))) ⌝ }
+// The factor of the n × n part of a, row after row, each from the rows above it. Refused with 4: a diagonal.
+pub fn factor_of(a: &[[f64; 4]; 4], n: Size) -> MatrixResult
+    ensures { λ r. ⌜ r ≡ asMatrix (choleskyOf (count n) (part n n (now (a .entry)))) ⌝ }
 {
+    let rows = matrix::number(n);
     let mut l = [[0.0; 4]; 4];
-    for i in 0..n {
+    for i in 0..rows {
         let mut v = left_cells(a, &l, i);
         let d = a[i][i] - kernel::dot(&v, &v, i);
         match diagonal_root(d) {
@@ -57,20 +59,13 @@ fn factor_rows(a: &[[f64; 4]; 4], n: usize) -> MatrixResult
     matrix::matrix_result(Status::Done, l)
 }
 
-// The factor of the n × n part of a. Refused with 1: the size; with 4: a diagonal.
-pub fn factor_of(a: &[[f64; 4]; 4], n: usize) -> MatrixResult
-    ensures { λ r. ⌜ r ≡ asMatrix (if-sized (sized n) (choleskyOf n (used n n (now (a .entry))))) ⌝ }
-{
-    if matrix::is_size(n) {
-        factor_rows(a, n)
-    } else {
-        matrix::matrix_refused(1)
-    }
-}
-
-// The same, of a matrix by value.
+// The same, of a matrix by value. Refused with 1: n is no size.
 pub fn cholesky(a: [[f64; 4]; 4], n: usize) -> MatrixResult
     ensures { λ r. ⌜ r ≡ asMatrix (if-sized (sized n) (choleskyOf n (used n n a))) ⌝ }
 {
-    factor_of(&a, n)
+    if matrix::is_size(n) {
+        factor_of(&a, matrix::size_of(n))
+    } else {
+        matrix::matrix_refused(1)
+    }
 }

@@ -10,27 +10,29 @@ use native.Mathlib.Omega.{arith}
 use lib.Ieee.{Float, eq}
 use lib.ListN.{replicate}
 use Rattle.scalar.specs.Number.{_⊗_, +0}
-use Rattle.matrix.specs.Matrix.{cell, mat, sumFrom, sum, filled, scale, trace, squares, every, equal}
-use Rattle.matrix.specs.Array.{cut, used}
-use Rattle.matrix.proofs.Matrices.{sumFrom-ext, sum-ext, mat-ext, cell-mat}
-use Rattle.matrix.proofs.Arrays.{cell-used, both-used}
+use Rattle.algebra.specs.Matrix.{cell, mat, sumFrom, sum, filled, scale, trace, squares, every, equal}
+use Rattle.algebra.specs.Array.{cut, used}
+use Rattle.algebra.proofs.Matrices.{sumFrom-ext, sum-ext, mat-ext, cell-mat}
+use Rattle.algebra.proofs.Arrays.{cell-used, both-used}
 
--- ---- the used parts: their cells are those that the code reads
-pub scale-used : (r c : ℕ) (a : List (List Float)) (s : Float) → scale r c (used r c a) s ≡ mat r c (λ i j. cell a i j ⊗ s)
+-- ---- the used part of what was made for all sixteen cells
+used-mat : (r c : ℕ) (f : ℕ → ℕ → Float) → r ≤ 4 → c ≤ 4 → used r c (mat 4 4 f) ≡ mat r c f
+unfolding used cut
+used-mat r c f hr hc = mat-ext r c (λ i j. cell (mat 4 4 f) i j) f (λ i j hi hj. cell-mat 4 4 f i j (le-trans hi hr) (le-trans hj hc))
+
+pub used-filled : (r c : ℕ) (x : Float) → r ≤ 4 → c ≤ 4 → used r c (replicate 4 (replicate 4 x)) ≡ filled r c x
+unfolding filled
+used-filled r c x hr hc = used-mat r c (λ i j. x) hr hc
+
+pub used-scale : (r c : ℕ) (a : List (List Float)) (s : Float) → r ≤ 4 → c ≤ 4 → used r c (scale 4 4 a s) ≡ scale r c (used r c a) s
 unfolding scale
-scale-used r c a s = both-used (λ x y. x ⊗ s) r c a a
+used-scale r c a s hr hc = used-mat r c (λ i j. cell a i j ⊗ s) hr hc ∙ sym (both-used (λ x y. x ⊗ s) r c a a)
 
--- an array with x in all places
-pub filled-used : (r c : ℕ) (x : Float) → r ≤ 4 → c ≤ 4 → used r c (replicate 4 (replicate 4 x)) ≡ filled r c x
-unfolding used cut filled
-filled-used r c x hr hc =
-    mat-ext r c (λ i j. cell (replicate 4 (replicate 4 x)) i j) (λ i j. x) (λ i j hi hj. cell-mat 4 4 (λ p q. x) i j (le-trans hi hr) (le-trans hj hc))
+-- ---- sums
 
 pub trace-used : (n : ℕ) (a : List (List Float)) → trace n (used n n a) ≡ sum n (λ i. cell a i i)
 unfolding trace
 trace-used n a = sum-ext n (λ i. cell (used n n a) i i) (λ i. cell a i i) (λ i h. cell-used n n a i i h h)
-
--- ---- sums of squares
 
 -- A loop has added the squares of the first i of r rows: its invariant
 pub record Squaring (a : List (List Float)) (r c i : ℕ) (s : Float) : Type 0 where
@@ -54,10 +56,10 @@ squaring-more {a} {r} {c} {i} {s} {t} e h v =
           ∙ ap (λ (m : ℕ). squares m c (used r c a)) (sym (add-one i));
     }
 
-pub squaring-all : {a : List (List Float)} {r c i : ℕ} {s : Float} → Squaring a r c i s → r ≤ i → s ≡ squares r c (used r c a)
-squaring-all {a} {r} {c} {i} {s} e h =
-    let same : i ≡ r = omega arith in
-    e .is ∙ ap (λ (m : ℕ). squares m c (used r c a)) same
+pub squaring-all : {a : List (List Float)} {r c i k : ℕ} {s : Float} → Squaring a r c i s → r ≤ i → r ≡ k → s ≡ squares k c (used k c a)
+squaring-all {a} {r} {c} {i} {k} {s} e h p =
+    let same : i ≡ k = omega arith in
+    e .is ∙ λ j. squares (same j) c (used (p j) c a)
 
 -- ---- tests that all hold
 every-ext : (n : ℕ) (f g : ℕ → Bool) → ((i : ℕ) → i < n → f i ≡ g i) → every n f ≡ every n g
@@ -79,9 +81,9 @@ unfolding every
 passing-more {f} {n} {i} e h v =
     record { within = omega arith; is = ap (λ (m : ℕ). every m f) (add-one i) ∙ (λ k. e .is k && v k) }
 
-pub passing-all : {f : ℕ → Bool} {n i : ℕ} → Passing f n i → n ≤ i → true ≡ every n f
-passing-all {f} {n} {i} e h =
-    let same : i ≡ n = omega arith in
+pub passing-all : {f : ℕ → Bool} {n i k : ℕ} → Passing f n i → n ≤ i → n ≡ k → true ≡ every k f
+passing-all {f} {n} {i} {k} e h p =
+    let same : i ≡ k = omega arith in
     sym (e .is) ∙ ap (λ (m : ℕ). every m f) same
 
 and-no : (a b : Bool) → b ≡ false → false ≡ a && b

@@ -10,12 +10,12 @@ use lib.ListN.{set, drop, replicate}
 use lib.Ieee.{Float}
 use Rattle.scalar.specs.Number.{+0}
 use Rattle.answer.specs.Table.{table, padTo}
-use Rattle.matrix.specs.Matrix.{Vector, row, cell, mat}
-use Rattle.matrix.specs.Matrix as Spec
-use Rattle.matrix.specs.Array.{cut, used, padRow, pad}
+use Rattle.algebra.specs.Matrix.{Vector, row, cell, mat}
+use Rattle.algebra.specs.Matrix as Spec
+use Rattle.algebra.specs.Array.{cut, used, padRow, pad}
 use Rattle.answer.proofs.Tables.{length-table, getD-table, table-ext, getD-padTo, filled-pad}
-use Rattle.matrix.proofs.Matrices.{mat-ext}
-use Rattle.matrix.proofs.Arrays.{cell-used, pad-rows}
+use Rattle.algebra.proofs.Matrices.{mat-ext}
+use Rattle.algebra.proofs.Arrays.{cell-used, pad-rows}
 
 module _ {A : Type 0} where
   -- a store into a table

@@ -3,26 +3,27 @@
 use answer::Status;
 use matrix::MatrixResult;
 use matrix::ScalarResult;
+use matrix::Size;
 use matrix::TestResult;
 use matrix::is_alike;
 use matrix::is_inside;
 use matrix::is_shape;
 use matrix::is_size;
-use matrix::kept;
 use matrix::kernel;
 use matrix::matrix_refused;
 use matrix::matrix_result;
+use matrix::number;
+use matrix::size_of;
 use scalar::ControlScalar;
 ghost use mathlib.Core.Path.{_≡_};
-ghost use Prim.Native.Nat.{_≤_, _<_};
 ghost use lib.Ieee.{eq};
 ghost use Rattle.scalar.specs.Number.{_⊗_};
 ghost use Rattle.answer.specs.Answer.{where-sized};
-ghost use Rattle.matrix.specs.Matrix.{cell, zeros, filled, identity, transpose, add, sub, scale, negated};
-ghost use Rattle.matrix.specs.Matrix.{set, sumFrom, squares, frobNorm, trace, every, equal};
-ghost use Rattle.matrix.specs.Array.{used, pad, usedFlat};
-ghost use Rattle.matrix.specs.Result.{asMatrix, asScalar, asTest, sized, shaped, alike, inside};
-ghost use Rattle.matrix.specs.Kernel.{flatOfRows};
+ghost use Rattle.algebra.specs.Matrix.{at, cell, zeros, filled, identity, transpose, add, sub, scale, negated};
+ghost use Rattle.algebra.specs.Matrix.{set, sumFrom, squares, frobNorm, trace, every, equal};
+ghost use Rattle.algebra.specs.Array.{used, usedFlat, flatOfRows};
+ghost use Rattle.matrix.specs.Result.{asMatrix, asScalar, asTest};
+ghost use Rattle.matrix.specs.Size.{count, part, sized, shaped, alike, inside};
 ghost use Rattle.elementwise.specs.Record.{flatMatrix};
 
 // ---- a matrix as a record
@@ -32,6 +33,19 @@ pub struct Matrix {
     pub rows: usize,
     pub cols: usize,
     pub cells: [f64; 16],
+}
+
+// The used part of a, of r rows and c columns. Refused with 1: a size.
+fn part_of(a: &[[f64; 4]; 4], r: usize, c: usize) -> MatrixResult
+    ensures { λ m. ⌜ m ≡ asMatrix (where-sized (shaped r c) (used r c (now (a .entry)))) ⌝ }
+{
+    if is_shape(r, c) {
+        let rows = size_of(r);
+        let cols = size_of(c);
+        matrix_result(Status::Done, kernel::used_part(a, rows, cols))
+    } else {
+        matrix_refused(1)
+    }
 }
 
 // Refused with 1 where a size is not 1 to 4; from_rows takes the sizes as they are.
@@ -45,23 +59,15 @@ impl Matrix {
     pub fn filled(rows: usize, cols: usize, val: f64) -> MatrixResult
         ensures { λ m. ⌜ m ≡ asMatrix (where-sized (shaped rows cols) (filled rows cols val)) ⌝ }
     {
-        if is_shape(rows, cols) {
-            let a = [[val; 4]; 4];
-            matrix_result(Status::Done, kernel::used_part(&a, rows, cols))
-        } else {
-            matrix_refused(1)
-        }
+        let a = [[val; 4]; 4];
+        part_of(&a, rows, cols)
     }
 
     pub fn identity(n: usize) -> MatrixResult
         ensures { λ m. ⌜ m ≡ asMatrix (where-sized (sized n) (identity n)) ⌝ }
     {
-        if is_size(n) {
-            let e = kernel::identity_rows();
-            matrix_result(Status::Done, kernel::used_part(&e, n, n))
-        } else {
-            matrix_refused(1)
-        }
+        let e = kernel::identity_rows();
+        part_of(&e, n, n)
     }
 
     pub fn default(rows: usize, cols: usize) -> MatrixResult
@@ -85,12 +91,8 @@ impl Matrix {
         let rows = self.rows;
         let cols = self.cols;
         let cells = self.cells;
-        if is_shape(rows, cols) {
-            let a = kernel::from_flat(&cells);
-            matrix_result(Status::Done, kernel::used_part(&a, rows, cols))
-        } else {
-            matrix_refused(1)
-        }
+        let a = kernel::from_flat(&cells);
+        part_of(&a, rows, cols)
     }
 }
 
@@ -101,7 +103,9 @@ pub fn transpose(a: [[f64; 4]; 4], r: usize, c: usize) -> MatrixResult
     ensures { λ m. ⌜ m ≡ asMatrix (where-sized (shaped r c) (transpose r c (used r c a))) ⌝ }
 {
     if is_shape(r, c) {
-        matrix_result(Status::Done, kernel::transposed(&a, r, c))
+        let rows = size_of(r);
+        let cols = size_of(c);
+        matrix_result(Status::Done, kernel::transposed(&a, rows, cols))
     } else {
         matrix_refused(1)
     }
@@ -119,7 +123,9 @@ pub fn add_mat(
     ensures { λ m. ⌜ m ≡ asMatrix (where-sized (alike ar ac br bc) (add ar ac (used ar ac a) (used ar ac b))) ⌝ }
 {
     if is_alike(ar, ac, br, bc) {
-        matrix_result(Status::Done, kernel::sum(&a, &b, ar, ac))
+        let r = size_of(ar);
+        let c = size_of(ac);
+        matrix_result(Status::Done, kernel::sum(&a, &b, r, c))
     } else {
         matrix_refused(1)
     }
@@ -137,33 +143,31 @@ pub fn sub_mat(
     ensures { λ m. ⌜ m ≡ asMatrix (where-sized (alike ar ac br bc) (sub ar ac (used ar ac a) (used ar ac b))) ⌝ }
 {
     if is_alike(ar, ac, br, bc) {
-        matrix_result(Status::Done, kernel::difference(&a, &b, ar, ac))
+        let r = size_of(ar);
+        let c = size_of(ac);
+        matrix_result(Status::Done, kernel::difference(&a, &b, r, c))
     } else {
         matrix_refused(1)
     }
 }
 
-// Each used cell times s.
-fn scaled(a: &[[f64; 4]; 4], r: usize, c: usize, s: f64) -> [[f64; 4]; 4]
-    requires { ⌜ (r ≤ 4) × (1 ≤ c) × (c ≤ 4) ⌝ }
-    ensures { λ p. ⌜ p ≡ pad (scale r c (used r c (now (a .entry))) s) ⌝ }
+// Each of the four rows times s.
+fn scaled(a: &[[f64; 4]; 4], s: f64) -> [[f64; 4]; 4]
+    ensures { λ p. ⌜ p ≡ scale 4 4 (now (a .entry)) s ⌝ }
 {
-    let mut out = [[0.0; 4]; 4];
-    for i in 0..r {
-        out[i] = kept(kernel::row_scaled(a[i], s), c);
-    }
-    out
+    let r0 = kernel::row_scaled(a[0], s);
+    let r1 = kernel::row_scaled(a[1], s);
+    let r2 = kernel::row_scaled(a[2], s);
+    let r3 = kernel::row_scaled(a[3], s);
+    [r0, r1, r2, r3]
 }
 
 // Each cell of a times s. Refused with 1: a size.
 pub fn scale(a: [[f64; 4]; 4], r: usize, c: usize, s: f64) -> MatrixResult
     ensures { λ m. ⌜ m ≡ asMatrix (where-sized (shaped r c) (scale r c (used r c a) s)) ⌝ }
 {
-    if is_shape(r, c) {
-        matrix_result(Status::Done, scaled(&a, r, c, s))
-    } else {
-        matrix_refused(1)
-    }
+    let m = scaled(&a, s);
+    part_of(&m, r, c)
 }
 
 // a scaled by -1: a product in each cell, not a flipped sign. Refused with 1: a size.
@@ -173,33 +177,15 @@ pub fn neg(a: [[f64; 4]; 4], r: usize, c: usize) -> MatrixResult
     scale(a, r, c, -1.0)
 }
 
-// The cell in row i, column j.
-fn cell_of(a: &[[f64; 4]; 4], i: usize, j: usize) -> f64
-    requires { ⌜ (i < 4) × (j < 4) ⌝ }
-    ensures { λ x. ⌜ x ≡ cell (now (a .entry)) i j ⌝ }
-{
-    a[i][j]
-}
-
 // The cell in row i, column j. Refused with 1: a size, or the cell is not in the used part.
 pub fn get(a: [[f64; 4]; 4], r: usize, c: usize, i: usize, j: usize) -> ScalarResult
     ensures { λ x. ⌜ x ≡ asScalar (where-sized (inside r c i j) (cell (used r c a) i j)) ⌝ }
 {
     if is_inside(r, c, i, j) {
-        ScalarResult::Value(cell_of(&a, i, j))
+        ScalarResult::Value(a[i][j])
     } else {
         ScalarResult::Refused(1)
     }
-}
-
-// The used part of a with val in row i, column j.
-fn placed(a: &[[f64; 4]; 4], r: usize, c: usize, i: usize, j: usize, val: f64) -> [[f64; 4]; 4]
-    requires { ⌜ (r ≤ 4) × (1 ≤ c) × (c ≤ 4) × (i < r) × (j < c) ⌝ }
-    ensures { λ p. ⌜ p ≡ pad (set r c i j val (used r c (now (a .entry)))) ⌝ }
-{
-    let mut out = kernel::used_part(a, r, c);
-    out[i][j] = val;
-    out
 }
 
 // a with val in row i, column j. Refused as get.
@@ -207,7 +193,11 @@ pub fn set(a: [[f64; 4]; 4], r: usize, c: usize, i: usize, j: usize, val: f64) -
     ensures { λ m. ⌜ m ≡ asMatrix (where-sized (inside r c i j) (set r c i j val (used r c a))) ⌝ }
 {
     if is_inside(r, c, i, j) {
-        matrix_result(Status::Done, placed(&a, r, c, i, j, val))
+        let rows = size_of(r);
+        let cols = size_of(c);
+        let mut out = kernel::used_part(&a, rows, cols);
+        out[i][j] = val;
+        matrix_result(Status::Done, out)
     } else {
         matrix_refused(1)
     }
@@ -215,27 +205,26 @@ pub fn set(a: [[f64; 4]; 4], r: usize, c: usize, i: usize, j: usize, val: f64) -
 
 // ---- sums over cells
 
-// s, and the squares of the first c cells of row i added to it.
-fn squares_row(a: &[[f64; 4]; 4], i: usize, c: usize, s: f64) -> f64
-    requires { ⌜ (i < 4) × (c ≤ 4) ⌝ }
-    ensures { λ t. ⌜ t ≡ sumFrom s c (λ j. cell (now (a .entry)) i j ⊗ cell (now (a .entry)) i j) ⌝ }
+// s, and the squares of the first n numbers of a row added to it.
+fn squares_row(v: [f64; 4], n: Size, s: f64) -> f64
+    ensures { λ t. ⌜ t ≡ sumFrom s (count n) (λ j. at v j ⊗ at v j) ⌝ }
 {
+    let cols = number(n);
     let mut t = s;
-    for j in 0..c {
-        let x = a[i][j];
-        t = t + x * x;
+    for j in 0..cols {
+        t = t + v[j] * v[j];
     }
     t
 }
 
 // One sum over the squares of all used cells, row after row.
-fn sum_of_squares(a: &[[f64; 4]; 4], r: usize, c: usize) -> f64
-    requires { ⌜ (r ≤ 4) × (c ≤ 4) ⌝ }
-    ensures { λ t. ⌜ t ≡ squares r c (used r c (now (a .entry))) ⌝ }
+fn sum_of_squares(a: &[[f64; 4]; 4], r: Size, c: Size) -> f64
+    ensures { λ t. ⌜ t ≡ squares (count r) (count c) (part r c (now (a .entry))) ⌝ }
 {
+    let rows = number(r);
     let mut s = 0.0;
-    for i in 0..r {
-        s = squares_row(a, i, c, s);
+    for i in 0..rows {
+        s = squares_row(a[i], c, s);
     }
     s
 }
@@ -245,19 +234,21 @@ pub fn frob_norm(a: [[f64; 4]; 4], r: usize, c: usize) -> ScalarResult
     ensures { λ x. ⌜ x ≡ asScalar (where-sized (shaped r c) (frobNorm r c (used r c a))) ⌝ }
 {
     if is_shape(r, c) {
-        ScalarResult::Value(ControlScalar::sqrt(sum_of_squares(&a, r, c)))
+        let rows = size_of(r);
+        let cols = size_of(c);
+        ScalarResult::Value(ControlScalar::sqrt(sum_of_squares(&a, rows, cols)))
     } else {
         ScalarResult::Refused(1)
     }
 }
 
 // The sum of the diagonal, from +0 on.
-fn diagonal_sum(a: &[[f64; 4]; 4], n: usize) -> f64
-    requires { ⌜ n ≤ 4 ⌝ }
-    ensures { λ t. ⌜ t ≡ trace n (used n n (now (a .entry))) ⌝ }
+fn diagonal_sum(a: &[[f64; 4]; 4], n: Size) -> f64
+    ensures { λ t. ⌜ t ≡ trace (count n) (part n n (now (a .entry))) ⌝ }
 {
+    let rows = number(n);
     let mut t = 0.0;
-    for i in 0..n {
+    for i in 0..rows {
         t = t + a[i][i];
     }
     t
@@ -268,7 +259,8 @@ pub fn trace(a: [[f64; 4]; 4], n: usize) -> ScalarResult
     ensures { λ x. ⌜ x ≡ asScalar (where-sized (sized n) (trace n (used n n a))) ⌝ }
 {
     if is_size(n) {
-        ScalarResult::Value(diagonal_sum(&a, n))
+        let k = size_of(n);
+        ScalarResult::Value(diagonal_sum(&a, k))
     } else {
         ScalarResult::Refused(1)
     }
@@ -276,13 +268,13 @@ pub fn trace(a: [[f64; 4]; 4], n: usize) -> ScalarResult
 
 // ---- comparison
 
-// Whether the first c cells of row i are equal, as f64's ==.
-fn equal_row<'a>(a: &'a [[f64; 4]; 4], b: &'a [[f64; 4]; 4], i: usize, c: usize) -> bool
-    requires { ⌜ (i < 4) × (c ≤ 4) ⌝ }
-    ensures { λ t. ⌜ t ≡ every c (λ j. eq (cell (now (a .entry)) i j) (cell (now (b .entry)) i j)) ⌝ }
+// Whether the first n numbers of two rows are equal, as f64's ==.
+fn equal_row(v: [f64; 4], w: [f64; 4], n: Size) -> bool
+    ensures { λ t. ⌜ t ≡ every (count n) (λ j. eq (at v j) (at w j)) ⌝ }
 {
-    for j in 0..c {
-        if a[i][j] != b[i][j] {
+    let cols = number(n);
+    for j in 0..cols {
+        if v[j] != w[j] {
             return false;
         }
     }
@@ -290,12 +282,12 @@ fn equal_row<'a>(a: &'a [[f64; 4]; 4], b: &'a [[f64; 4]; 4], i: usize, c: usize)
 }
 
 // Whether all used cells are equal.
-fn equal_rows<'a>(a: &'a [[f64; 4]; 4], b: &'a [[f64; 4]; 4], r: usize, c: usize) -> bool
-    requires { ⌜ (r ≤ 4) × (c ≤ 4) ⌝ }
-    ensures { λ t. ⌜ t ≡ equal r c (used r c (now (a .entry))) (used r c (now (b .entry))) ⌝ }
+fn equal_rows<'a>(a: &'a [[f64; 4]; 4], b: &'a [[f64; 4]; 4], r: Size, c: Size) -> bool
+    ensures { λ t. ⌜ t ≡ equal (count r) (count c) (part r c (now (a .entry))) (part r c (now (b .entry))) ⌝ }
 {
-    for i in 0..r {
-        if !equal_row(a, b, i, c) {
+    let rows = number(r);
+    for i in 0..rows {
+        if !equal_row(a[i], b[i], c) {
             return false;
         }
     }
@@ -314,7 +306,9 @@ pub fn eq(
     ensures { λ t. ⌜ t ≡ asTest (where-sized (alike ar ac br bc) (equal ar ac (used ar ac a) (used ar ac b))) ⌝ }
 {
     if is_alike(ar, ac, br, bc) {
-        TestResult::Value(equal_rows(&a, &b, ar, ac))
+        let r = size_of(ar);
+        let c = size_of(ac);
+        TestResult::Value(equal_rows(&a, &b, r, c))
     } else {
         TestResult::Refused(1)
     }

@@ -1,7 +1,7 @@
 -- Laws of the code's loop over the columns, on two arrays of rows whose used parts are the definition's two matrices. Assumes nothing.
 use mathlib.Core.Path.{_≡_, refl, sym, ap, _∙_}
 use mathlib.Core.List.{[]}
-use mathlib.Core.Bool.{Bool, true, false}
+use mathlib.Core.Bool.{true, false}
 use Prim.Native.Nat.{ℕ, zero, suc, _+_, _-_, _≤_, _<_}
 use native.Mathlib.Nat.{le-trans, add-zero, add-suc}
 use native.Mathlib.Numerals.{add-one}
@@ -9,23 +9,25 @@ use native.Mathlib.Omega.{arith}
 use lib.ListN.{length, length-set}
 use lib.Ieee.{Float, nan}
 use Rattle.scalar.specs.Number.{_⊘_, one, abs}
-use Rattle.answer.specs.Answer.{Answer, refused, answered, and-then, mapped, refused-if, where-sized, if-sized}
+use Rattle.answer.specs.Answer.{Answer, refused, answered, and-then, mapped, refused-if, if-sized}
 use Rattle.answer.specs.Table.{table}
-use Rattle.matrix.specs.Matrix.{Vector, Matrix, row, cell, identity}
-use Rattle.matrix.specs.Array.{cut, used, pad}
+use Rattle.algebra.specs.Matrix.{Vector, Matrix, row, cell, identity}
+use Rattle.algebra.specs.Array.{cut, used, pad}
 use Rattle.answer.specs.declared.Status.the-variants.{Done}
 use Rattle.matrix.specs.declared.MatrixResult.{MatrixResult}
-use Rattle.matrix.specs.Result.{matrixResult, asMatrix, sized, shaped}
-use Rattle.matrix.specs.Kernel.{rowsOf}
+use Rattle.matrix.specs.Result.{matrixResult, asMatrix}
+use Rattle.matrix.specs.declared.Size.{Size}
+use Rattle.matrix.specs.declared.Size.the-variants.{One, Two, Three, Four}
+use Rattle.matrix.specs.Size.{count, sizeOf, part, sized}
+use Rattle.matrix.proofs.Sizes.{is-count}
+use Rattle.matrix.proofs.Results.{if-answered}
 use Rattle.answer.proofs.Tables.{getD-table, table-ext}
-use Rattle.matrix.proofs.Matrices.{Shape, shape-identity}
-use Rattle.matrix.proofs.Arrays.{cell-used}
-use Rattle.inverse.specs.Inverse.{noPivot, pivotRow, swapped, scaledRow, reduced, Augmented, _∣_, exchanged, cleared, column, columns, inv}
+use Rattle.algebra.proofs.Matrices.{Shape, shape-identity}
+use Rattle.algebra.proofs.Arrays.{cell-used, identity-used, used-all}
+use Rattle.algebra.specs.Inverse.{noPivot, pivotRow, swapped, scaledRow, reduced, Augmented, _∣_, exchanged, cleared, column, columns, inv}
 use Rattle.inverse.specs.Rows.{Swap, Scale, Reduce, Clear}
 use Rattle.answer.proofs.Answers.{if-true, if-false}
-use Rattle.matrix.proofs.Kernels.{rows-sized, identity-used, used-all}
-use Rattle.matrix.proofs.Results.{size, shaped-true}
-use Rattle.inverse.proofs.Laws.{column-ext, inv-shape}
+use Rattle.algebra.proofs.Inverses.{column-ext, inv-shape}
 use Rattle.inverse.proofs.Rows.{swapped-used, scaled-used}
 
 -- ---- one turn: on one of the arrays, m, which becomes m₁ and then m₂
@@ -69,8 +71,13 @@ turn {n} {c} {p} {l} {l₁} {l₂} {l₃} {r} {r₁} {r₂} {r₃} {f} four h hl
 
 -- ---- the loop
 
+-- n is m
+pub inv-at : {n m : ℕ} (a : Matrix) → n ≡ m → asMatrix (inv n (used n n a)) ≡ asMatrix (inv m (used m m a))
+inv-at a e = ap (λ (k : ℕ). asMatrix (inv k (used k k a))) e
+
 -- A loop has gone through the first c columns of A, and l and r are its two arrays: its invariant
 pub record Sweeping (n : ℕ) (A : Matrix) (c : ℕ) (l r : Matrix) : Type 0 where
+  pub most : n ≤ 4
   pub within : c ≤ n
   pub left : length l ≡ 4
   pub right : length r ≡ 4
@@ -84,6 +91,7 @@ pub sweeping-none : (n : ℕ) (a r : Matrix) → n ≤ 4 → r ≡ identity 4 �
 unfolding columns
 sweeping-none n a r four e =
     record {
+      most = four;
       within = omega arith;
       left = refl;
       right = ap length e ∙ shape-identity 4 .rows;
@@ -109,6 +117,7 @@ module _ {n : ℕ} {A : Matrix} {c : ℕ} {l r : Matrix} {p : ℕ} (e : Sweeping
   pub sweeping-more : {l′ r′ : Matrix} → noPivot (abs (cell l p c)) ≡ false → Clear n p c l r l′ r′ → Sweeping n A (c + 1) l′ r′
   sweeping-more t v =
       record {
+        most = e .most;
         within = omega arith;
         left = v .left;
         right = v .right;
@@ -127,39 +136,35 @@ sweeping-all {n} {A} {c} e h =
     let same : n ≡ c = omega arith in
     ap (mapped (λ w. w .right)) (ap (λ (i : ℕ). columns n i A) same ∙ e .is)
 
--- p is the used part of the right array, as the code hands it over
-pub sweeping-out : {n : ℕ} {A : Matrix} {c : ℕ} {l r p : Matrix} → Sweeping n A c l r → n ≤ c → 1 ≤ n → n ≤ 4 → p ≡ rowsOf (where-sized (shaped n n) (used n n r))
-    → matrixResult Done p ≡ asMatrix (inv n A)
-sweeping-out e h least most q =
-    let s = size least most in
-    ap (matrixResult Done) (rows-sized _ (shaped-true s s) q) ∙ ap asMatrix (sym (sweeping-all e h))
+-- p is the used part of the right array, as the code hands it over; m is another name of n
+pub sweeping-out : {n m : ℕ} (a : Matrix) {c : ℕ} {l r p : Matrix} → Sweeping n (used n n a) c l r → n ≤ c → n ≡ m → p ≡ pad (used m m r)
+    → matrixResult Done p ≡ asMatrix (inv m (used m m a))
+sweeping-out {n} {m} a {c} {l} {r} e h same q =
+    ap (matrixResult Done) (q ∙ ap (λ (k : ℕ). pad (used k k r)) (sym same)) ∙ ap asMatrix (sym (sweeping-all e h)) ∙ inv-at a same
 
--- ---- out of the entry, where its size is k
-pub inv-sized : {n k : ℕ} (a : Matrix) → n ≡ k → sized k ≡ true → asMatrix (inv k (used k k a)) ≡ asMatrix (if-sized (sized n) (inv n (used n n a)))
-inv-sized {n} {k} a e t =
-    ap (λ (b : Bool). asMatrix (if-sized b (inv k (used k k a)))) (sym t)
-    ∙ ap (λ (m : ℕ). asMatrix (if-sized (sized m) (inv m (used m m a)))) (sym e)
+-- ---- out of the entry: s is the size of n, which is tested
+pub inv-sized : (n : ℕ) {s : Size} (a : Matrix) {w : MatrixResult} → sized n ≡ true → s ≡ sizeOf n → w ≡ asMatrix (inv (count s) (part s s a))
+    → w ≡ asMatrix (if-sized (sized n) (inv n (used n n a)))
+inv-sized n a t e p = if-answered asMatrix _ t (p ∙ inv-at a (is-count t e))
 
 -- ---- a result whose rows are read again, all four numbers of each: it stays
 
-four-rows : (n : ℕ) (A : Matrix) → n ≤ 4 → used 4 4 (pad (used n n A)) ≡ pad (used n n A)
+four-rows : (n : Size) (A : Matrix) → used 4 4 (pad (part n n A)) ≡ pad (part n n A)
 unfolding used cut pad
-four-rows zero A h = refl
-four-rows (suc zero) A h = refl
-four-rows (suc (suc zero)) A h = refl
-four-rows (suc (suc (suc zero))) A h = refl
-four-rows (suc (suc (suc (suc zero)))) A h = refl
-four-rows (suc (suc (suc (suc (suc n))))) A h = absurd (omega arith)
+four-rows One A = refl
+four-rows Two A = refl
+four-rows Three A = refl
+four-rows Four A = refl
 
 abbrev again : MatrixResult → MatrixResult
 again r = matrixResult (r .status) (used 4 4 (r .rows))
 
-read-answer : (n : ℕ) (o : Answer Matrix) → n ≤ 4 → ((B : Matrix) → o ≡ answered B → Shape n n B) → again (asMatrix o) ≡ asMatrix o
+read-answer : (n : Size) (o : Answer Matrix) → ((B : Matrix) → o ≡ answered B → Shape (count n) (count n) B) → again (asMatrix o) ≡ asMatrix o
 unfolding used cut pad
-read-answer n (refused k) h s = refl
-read-answer n (answered B) h s =
-    let same = used-all n n B (s B refl) in
-    ap (λ (A : Matrix). matrixResult Done (used 4 4 (pad A))) (sym same) ∙ ap (matrixResult Done) (four-rows n B h) ∙ ap (λ (A : Matrix). matrixResult Done (pad A)) same
+read-answer n (refused k) s = refl
+read-answer n (answered B) s =
+    let same = used-all (count n) (count n) B (s B refl) in
+    ap (λ (A : Matrix). matrixResult Done (used 4 4 (pad A))) (sym same) ∙ ap (matrixResult Done) (four-rows n B) ∙ ap (λ (A : Matrix). matrixResult Done (pad A)) same
 
-pub inv-read : (n : ℕ) (A : Matrix) {r : MatrixResult} → n ≤ 4 → r ≡ asMatrix (inv n A) → again r ≡ asMatrix (inv n A)
-inv-read n A h q = ap again q ∙ read-answer n (inv n A) h (inv-shape n A)
+pub inv-read : (n : Size) (a : Matrix) {r : MatrixResult} → r ≡ asMatrix (inv (count n) (part n n a)) → again r ≡ asMatrix (inv (count n) (part n n a))
+inv-read n a q = ap again q ∙ read-answer n (inv (count n) (part n n a)) (inv-shape (count n) (part n n a))

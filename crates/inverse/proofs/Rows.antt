@@ -13,12 +13,12 @@ use lib.Ieee.{Float, nan}
 use Rattle.scalar.specs.Number.{_⊖_, _⊗_}
 use Rattle.answer.proofs.Choice.{cond-true, cond-false}
 use Rattle.answer.specs.Table.{table}
-use Rattle.matrix.specs.Matrix.{Vector, Matrix, at, row, cell, vecScale}
-use Rattle.matrix.specs.Array.{cut, used}
+use Rattle.algebra.specs.Matrix.{Vector, Matrix, at, row, cell, vecScale}
+use Rattle.algebra.specs.Array.{cut, used}
 use Rattle.answer.proofs.Tables.{getD-table, filled, filled-more, length-filled}
-use Rattle.matrix.proofs.Matrices.{mat-ext}
-use Rattle.matrix.proofs.Arrays.{cell-used, at-cut}
-use Rattle.inverse.specs.Inverse.{swapped, scaledRow, reduced}
+use Rattle.algebra.proofs.Matrices.{mat-ext}
+use Rattle.algebra.proofs.Arrays.{cell-used, at-cut}
+use Rattle.algebra.specs.Inverse.{swapped, scaledRow, reduced}
 use Rattle.inverse.specs.Rows.{Reduce}
 use Rattle.inverse.proofs.Stores.{at-cond, cell-set, filled-at, filled-before}
 

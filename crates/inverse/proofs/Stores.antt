@@ -10,7 +10,7 @@ use borrow.Author.Tests.{eqb-true, eqb-false}
 use lib.ListN.{length, set, drop, List·getD-append}
 use lib.Seq.{getD-set-same, getD-set-other, getD-append-add, getD-drop}
 use Rattle.answer.specs.Table.{table}
-use Rattle.matrix.specs.Matrix.{Vector, Matrix, at, row, cell}
+use Rattle.algebra.specs.Matrix.{Vector, Matrix, at, row, cell}
 use Rattle.answer.proofs.Tables.{length-table, getD-table, filled}
 
 -- ---- a cell after a store

@@ -5,9 +5,9 @@ use Prim.Native.Nat.{ℕ}
 use lib.Ieee.{Float, lt}
 use Rattle.scalar.specs.Number.{_⊖_, _⊗_, _⊘_, one, +0, abs}
 use Rattle.answer.specs.Answer.{Answer, refused, and-then, mapped, refused-if}
-use Rattle.matrix.specs.Matrix.{Matrix, cell, identity}
-use Rattle.inverse.specs.Inverse.{noPivot, pivotRow, swapped, scaledRow, reduced, Augmented, _∣_, exchanged, cleared, column, columns, inv}
-use Rattle.inverse.specs.Two.{oneByOne, twoByTwo, reciprocal, fromDiagonal}
+use Rattle.algebra.specs.Matrix.{Matrix, cell, identity, oneByOne, twoByTwo}
+use Rattle.algebra.specs.Inverse.{noPivot, pivotRow, swapped, scaledRow, reduced, Augmented, _∣_, exchanged, cleared, column, columns, inv}
+use Rattle.inverse.specs.Two.{reciprocal, fromDiagonal}
 
 -- the right part after a test, and after a test and a step more
 tested : (b : Bool) (w : Augmented) → mapped (λ v. v .right) (refused-if b 3 w) ≡ refused-if b 3 (w .right)

@@ -1,3 +1,2 @@
-pub mod Inverse
 pub mod Rows
 pub mod Two

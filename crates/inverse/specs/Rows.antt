@@ -4,9 +4,9 @@ use mathlib.Core.List.{List}
 use Prim.Native.Nat.{ℕ}
 use lib.ListN.{length, set}
 use lib.Ieee.{Float}
-use Rattle.matrix.specs.Matrix.{row, vecScale}
-use Rattle.matrix.specs.Array.{cut, used}
-use Rattle.inverse.specs.Inverse.{_∣_, reduced, exchanged, cleared}
+use Rattle.algebra.specs.Matrix.{row, vecScale}
+use Rattle.algebra.specs.Array.{cut, used}
+use Rattle.algebra.specs.Inverse.{_∣_, reduced, exchanged, cleared}
 
 abbrev pub Array : Type 0
 Array = List (List Float)

@@ -1,20 +1,13 @@
--- Matrices of the sizes 1 and 2, and the part of the elimination that the straight-line code has. Definitions only.
-use mathlib.Core.List.{[], _∷_}
+-- The elimination at the sizes 1 and 2, as the straight-line code has it. Definitions only.
 use lib.Ieee.{Float}
 use Rattle.scalar.specs.Number.{_⊗_, _⊘_, one, abs}
 use Rattle.answer.specs.Answer.{Answer, and-then, mapped, refused-if}
-use Rattle.matrix.specs.Matrix.{Matrix, at, cell}
-use Rattle.matrix.specs.Array.{pad}
+use Rattle.algebra.specs.Matrix.{Matrix, at, cell, twoByTwo}
+use Rattle.algebra.specs.Array.{pad}
 use Rattle.matrix.specs.Result.{matrixResult}
 use Rattle.matrix.specs.declared.MatrixResult.{MatrixResult}
 use Rattle.matrix.specs.declared.VectorResult.{VectorResult}
-use Rattle.inverse.specs.Inverse.{noPivot, _∣_, cleared, column}
-
-abbrev pub oneByOne : Float → Matrix
-oneByOne x = (x ∷ []) ∷ []
-
-abbrev pub twoByTwo : Float → Float → Float → Float → Matrix
-twoByTwo a b c d = (a ∷ b ∷ []) ∷ (c ∷ d ∷ []) ∷ []
+use Rattle.algebra.specs.Inverse.{noPivot, _∣_, cleared, column}
 
 -- four cells beside their case, in the rows of a matrix of the size 2
 abbrev pub inRows : VectorResult → MatrixResult

@@ -7,15 +7,17 @@ ghost use lib.Ieee.{lt};
 ghost use Rattle.scalar.specs.Number.{abs as absOf};
 ghost use Rattle.answer.specs.Answer.{if-sized};
 ghost use Rattle.answer.specs.Table.{table};
-ghost use Rattle.matrix.specs.Matrix.{cell};
-ghost use Rattle.matrix.specs.Array.{used};
-ghost use Rattle.matrix.specs.Result.{matrixResult, asMatrix, asScalar, sized};
-ghost use Rattle.inverse.specs.Two.{oneByOne, twoByTwo, inRows, reciprocal, fromDiagonal};
+ghost use Rattle.algebra.specs.Matrix.{cell, oneByOne, twoByTwo};
+ghost use Rattle.algebra.specs.Array.{used};
+ghost use Rattle.algebra.specs.Inverse.{noPivot, pivotRow, inv as invOf};
+ghost use Rattle.matrix.specs.Size.{count, part, sized};
+ghost use Rattle.matrix.specs.Result.{matrixResult, asMatrix, asScalar};
+ghost use Rattle.inverse.specs.Two.{inRows, reciprocal, fromDiagonal};
 ghost use Rattle.inverse.specs.Rows.{Swap, Scale, Reduce, Clear};
-ghost use Rattle.inverse.specs.Inverse.{noPivot, pivotRow, inv as invOf};
 use answer::Status;
 use matrix::MatrixResult;
 use matrix::ScalarResult;
+use matrix::Size;
 use matrix::VectorResult;
 use matrix::kernel;
 
@@ -112,18 +114,18 @@ fn clear_column(left: &mut [[f64; 4]; 4], right: &mut [[f64; 4]; 4], n: usize, p
 
 // Left is on its way to the identity, and right from the identity to the inverse. Left is a copy of a row
 // by row: so it is known to have four.
-fn eliminate(a: &[[f64; 4]; 4], n: usize) -> MatrixResult
-    requires { ⌜ (1 ≤ n) × (n ≤ 4) ⌝ }
-    ensures { λ r. ⌜ r ≡ asMatrix (invOf n (used n n (now (a .entry)))) ⌝ }
+fn eliminate(a: &[[f64; 4]; 4], n: Size) -> MatrixResult
+    ensures { λ r. ⌜ r ≡ asMatrix (invOf (count n) (part n n (now (a .entry)))) ⌝ }
 {
+    let k = matrix::number(n);
     let mut left = [a[0], a[1], a[2], a[3]];
     let mut right = kernel::identity_rows();
-    for col in 0..n {
-        let p = pivot_row(&left, n, col);
+    for col in 0..k {
+        let p = pivot_row(&left, k, col);
         if no_pivot(left[p][col]) {
             return matrix::matrix_refused(3);
         }
-        clear_column(&mut left, &mut right, n, p, col);
+        clear_column(&mut left, &mut right, k, p, col);
     }
     matrix::matrix_result(Status::Done, kernel::used_part(&right, n, n))
 }
@@ -181,7 +183,7 @@ fn diagonal_two(a: f64, b: f64, p: f64, q: f64, e: f64, f: f64, g: f64, h: f64) 
 }
 
 // The four cells of the inverse of (a, b), (c, d), row by row.
-fn inverse_two(a: f64, b: f64, c: f64, d: f64) -> VectorResult
+pub fn inverse_two(a: f64, b: f64, c: f64, d: f64) -> VectorResult
     ensures { λ r. ⌜ inRows r ≡ asMatrix (invOf 2 (twoByTwo a b c d)) ⌝ }
 {
     if above(c, a) {
@@ -212,41 +214,38 @@ fn read_again(r: MatrixResult) -> MatrixResult
 {
     let status = r.status;
     let m = matrix::rows_of(r);
-    let r0 = matrix::kept(m[0], 4);
-    let r1 = matrix::kept(m[1], 4);
-    let r2 = matrix::kept(m[2], 4);
-    let r3 = matrix::kept(m[3], 4);
+    let r0 = kernel::leading(m[0], Size::Four);
+    let r1 = kernel::leading(m[1], Size::Four);
+    let r2 = kernel::leading(m[2], Size::Four);
+    let r3 = kernel::leading(m[3], Size::Four);
     matrix::matrix_result(status, [r0, r1, r2, r3])
 }
 
-// The inverse of the n by n matrix a, lent. Refused: 1 where n is no size, 3 where a column has no pivot.
-pub fn inverse_of(a: &[[f64; 4]; 4], n: usize) -> MatrixResult
-    ensures { λ r. ⌜ r ≡ asMatrix (if-sized (sized n) (invOf n (used n n (now (a .entry))))) ⌝ }
+// The inverse of the n by n matrix a, lent. Refused with 3: a column has no pivot.
+pub fn inverse_of(a: &[[f64; 4]; 4], n: Size) -> MatrixResult
+    ensures { λ r. ⌜ r ≡ asMatrix (invOf (count n) (part n n (now (a .entry)))) ⌝ }
 {
-    if n == 1 {
-        return inverse_one(a[0][0]);
-    }
-    if n == 2 {
-        return rows_two(inverse_two(a[0][0], a[0][1], a[1][0], a[1][1]));
-    }
-    if matrix::is_size(n) {
-        eliminate(a, n)
-    } else {
-        matrix::matrix_refused(1)
+    match n {
+        Size::One => inverse_one(a[0][0]),
+        Size::Two => rows_two(inverse_two(a[0][0], a[0][1], a[1][0], a[1][1])),
+        _ => eliminate(a, n),
     }
 }
 
-// The same, by value.
+// The same, by value. Refused with 1: n is no size.
 pub fn inv(a: [[f64; 4]; 4], n: usize) -> MatrixResult
     ensures { λ r. ⌜ r ≡ asMatrix (if-sized (sized n) (invOf n (used n n a))) ⌝ }
 {
-    if n == 1 {
-        inverse_one(a[0][0])
-    } else if n == 2 {
-        rows_two(inverse_two(a[0][0], a[0][1], a[1][0], a[1][1]))
-    } else if matrix::is_size(n) {
-        let lent = a;
-        read_again(eliminate(&lent, n))
+    if matrix::is_size(n) {
+        let s = matrix::size_of(n);
+        match s {
+            Size::One => inverse_one(a[0][0]),
+            Size::Two => rows_two(inverse_two(a[0][0], a[0][1], a[1][0], a[1][1])),
+            _ => {
+                let lent = a;
+                read_again(eliminate(&lent, s))
+            }
+        }
     } else {
         matrix::matrix_refused(1)
     }

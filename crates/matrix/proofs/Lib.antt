@@ -1,6 +1,4 @@
-pub mod Matrices
+pub mod Sizes
 pub mod Results
-pub mod Arrays
-pub mod Vectors
 pub mod Kernels
 pub mod RowWise

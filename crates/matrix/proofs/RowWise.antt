@@ -6,20 +6,18 @@ use native.Mathlib.Nat.{le-trans}
 use lib.Ieee.{Float, nan}
 use Rattle.scalar.specs.Number.{_⊕_, _⊖_, _⊗_}
 use Rattle.answer.specs.Table.{table}
-use Rattle.matrix.specs.Matrix.{Vector, Matrix, at, row, cell, mat, sum, identity, transpose, add, sub, mul, vecAdd, vecSub}
-use Rattle.matrix.specs.Array.{cut, used, padRow}
-use Rattle.matrix.specs.Result.{sizeOrFour}
+use Rattle.algebra.specs.Matrix.{Vector, Matrix, at, row, cell, mat, sum, identity, transpose, add, sub, mul, vecAdd, vecSub}
+use Rattle.algebra.specs.Array.{cut, used, padRow}
+use Rattle.matrix.proofs.Sizes.{Bounds}
 use Rattle.matrix.specs.Kernel.{rowTimes, rowTimesTransposed}
 use Rattle.answer.proofs.Tables.{getD-table, table-ext, table-getD}
-use Rattle.matrix.proofs.Matrices.{sum-ext, cell-mat, Shape}
-use Rattle.matrix.proofs.Arrays.{at-cut, cell-used, row-used, kept-sized}
-use Rattle.matrix.proofs.Results.{Size, or-four-size}
-use Rattle.matrix.proofs.Kernels.{identity-used}
+use Rattle.algebra.proofs.Matrices.{sum-ext, cell-mat, Shape}
+use Rattle.algebra.proofs.Arrays.{at-cut, cell-used, row-used, identity-used}
 
 -- the first c of v's four numbers are row i of A, which has r rows of c
 pub record RowOf (r c : ℕ) (A : Matrix) (i : ℕ) (v : List Float) : Type 0 where
   pub within : i < r
-  pub size : Size c
+  pub size : Bounds c
   pub is : cut c v ≡ row A i
 
 -- component j of v is the cell of A
@@ -27,7 +25,7 @@ at-row : {r c : ℕ} {A : Matrix} {i : ℕ} {v : List Float} → RowOf r c A i v
 at-row {r} {c} {A} {i} {v} a j h = sym (at-cut c v j h) ∙ ap (λ (u : Vector). at u j) (a .is)
 
 -- a row of four numbers f that agree with row i of the matrix of g
-row-made : (r c : ℕ) (f : ℕ → Float) (g : ℕ → ℕ → Float) (i : ℕ) {s : List Float} → i < r → Size c → ((j : ℕ) → j < c → f j ≡ g i j) → s ≡ table 4 f → RowOf r c (mat r c g) i s
+row-made : (r c : ℕ) (f : ℕ → Float) (g : ℕ → ℕ → Float) (i : ℕ) {s : List Float} → i < r → Bounds c → ((j : ℕ) → j < c → f j ≡ g i j) → s ≡ table 4 f → RowOf r c (mat r c g) i s
 unfolding cut
 row-made r c f g i l C p e = record {
   within = l;
@@ -42,10 +40,10 @@ pub row-renamed : {r c : ℕ} {A B : Matrix} {i : ℕ} {v : List Float} → A �
 row-renamed {r} {c} {A} {B} {i} {v} e a = record { within = a .within; size = a .size; is = a .is ∙ ap (λ (X : Matrix). row X i) e }
 
 -- ---- the rows to begin with
-pub row-of-used : {r c : ℕ} {i : ℕ} (a : List (List Float)) → i < r → Size c → RowOf r c (used r c a) i (row a i)
+pub row-of-used : {r c : ℕ} {i : ℕ} (a : List (List Float)) → i < r → Bounds c → RowOf r c (used r c a) i (row a i)
 row-of-used {r} {c} {i} a h C = record { within = h; size = C; is = sym (row-used r c a i h) }
 
-pub row-of-identity : {n i : ℕ} {e : List (List Float)} → i < n → Size n → e ≡ identity 4 → RowOf n n (identity n) i (row e i)
+pub row-of-identity : {n i : ℕ} {e : List (List Float)} → i < n → Bounds n → e ≡ identity 4 → RowOf n n (identity n) i (row e i)
 row-of-identity {n} {i} {e} h N d = record {
   within = h;
   size = N;
@@ -67,21 +65,21 @@ module _ {r c : ℕ} {A B : Matrix} {i : ℕ} {v w s : List Float} (a : RowOf r 
       (λ j k. ap₂ (λ (x y : Float). x ⊖ y) (at-row a j k) (at-row b j k)) e
 
 -- ---- products
-module _ {r k c : ℕ} {A : Matrix} {i : ℕ} {v s : List Float} (a : RowOf r k A i v) (C : Size c) where
+module _ {r k c : ℕ} {A : Matrix} {i : ℕ} {v s : List Float} (a : RowOf r k A i v) (C : Bounds c) where
   -- g t j is what the code reads of B
   row-times : (B : Matrix) (g : ℕ → ℕ → Float) → ((t j : ℕ) → t < k → j < c → g t j ≡ cell B t j)
-      → s ≡ table 4 (λ j. sum (sizeOrFour k) (λ t. at v t ⊗ g t j)) → RowOf r c (mul r k c A B) i s
+      → s ≡ table 4 (λ j. sum k (λ t. at v t ⊗ g t j)) → RowOf r c (mul r k c A B) i s
   unfolding mul
   row-times B g b e =
       row-made r c (λ j. sum k (λ t. at v t ⊗ g t j)) (λ m j. sum k (λ t. cell A m t ⊗ cell B t j)) i (a .within) C
       (λ j m. sum-ext k (λ t. at v t ⊗ g t j) (λ t. cell A i t ⊗ cell B t j) (λ t n. ap₂ (λ (x y : Float). x ⊗ y) (at-row a t n) (b t j n m)))
-      (e ∙ ap (λ (n : ℕ). table 4 (λ j. sum n (λ t. at v t ⊗ g t j))) (or-four-size (a .size)))
+      e
 
-  pub row-of-product : (b : List (List Float)) → s ≡ rowTimes (sizeOrFour k) v b → RowOf r c (mul r k c A (used k c b)) i s
+  pub row-of-product : (b : List (List Float)) → s ≡ rowTimes k v b → RowOf r c (mul r k c A (used k c b)) i s
   unfolding rowTimes
   row-of-product b e = row-times (used k c b) (λ t j. cell b t j) (λ t j m n. sym (cell-used k c b t j m n)) e
 
-  pub row-of-product-transposed : (b : List (List Float)) → s ≡ rowTimesTransposed (sizeOrFour k) v b
+  pub row-of-product-transposed : (b : List (List Float)) → s ≡ rowTimesTransposed k v b
       → RowOf r c (mul r k c A (transpose c k (used c k b))) i s
   unfolding transpose rowTimesTransposed
   row-of-product-transposed b e =
@@ -89,8 +87,8 @@ module _ {r k c : ℕ} {A : Matrix} {i : ℕ} {v s : List Float} (a : RowOf r k 
       (λ t j m n. sym (cell-mat k c (λ p q. cell (used c k b) q p) t j m n ∙ cell-used c k b j t n m)) e
 
 -- ---- the row is stored, and at the end the rows are the matrix
-pub row-kept : {r c : ℕ} {A : Matrix} {i : ℕ} {s : List Float} → RowOf r c A i s → padRow (cut (sizeOrFour c) s) ≡ padRow (row A i)
-row-kept {r} {c} {A} {i} {s} a = kept-sized c s (a .size) ∙ ap padRow (a .is)
+pub row-leading : {r c : ℕ} {A : Matrix} {i : ℕ} {s : List Float} → RowOf r c A i s → padRow (cut c s) ≡ padRow (row A i)
+row-leading a = ap padRow (a .is)
 
 pub rows-are : {r c : ℕ} {A : Matrix} → Shape r c A → A ≡ table r (λ i. row A i)
 rows-are {r} {c} {A} s = sym (ap (λ (k : ℕ). table k (λ i. row A i)) (sym (s .rows)) ∙ table-getD A [])

@@ -1,4 +1,3 @@
-pub mod Matrix
-pub mod Array
+pub mod Size
 pub mod Result
 pub mod Kernel

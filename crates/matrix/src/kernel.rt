@@ -1,22 +1,18 @@
-// The operations behind references, for the crates above: no matrix is copied. Each that takes the sizes of matrices
-// tests them, and gives all +0 where they are wrong; the two products of a row take a number of terms, and one that is
-// no size counts as 4.
-use crate::is_chained;
-use crate::is_shape;
-use crate::is_size;
-use crate::kept;
+// The operations behind references, for the crates above: no matrix is copied. A size is 1 to 4 by its type, so nothing here
+// is tested.
+use crate::Size;
+use crate::number;
 ghost use mathlib.Core.Path.{_≡_};
 ghost use mathlib.Core.Bool.{cond};
 ghost use mathlib.Core.List.{[], _∷_};
 ghost use Prim.Native.Nat.{_+_, _≤_, _<_};
 ghost use lib.Dec.{leb};
 ghost use Rattle.scalar.specs.Number.{+0};
-ghost use Rattle.answer.specs.Answer.{where-sized};
 ghost use Rattle.answer.specs.Table.{table};
-ghost use Rattle.matrix.specs.Matrix.{at, cell, identity, transpose, add, sub, mul, matvec, vecAdd, vecSub, vecScale, dot as dotOf};
-ghost use Rattle.matrix.specs.Array.{cut, used};
-ghost use Rattle.matrix.specs.Result.{sized, sizeOrFour, shaped, chained};
-ghost use Rattle.matrix.specs.Kernel.{rowsOf, cellsOf, plusScaled, rowTimes, rowTimesTransposed, rowsOfFlat, flatOfRows};
+ghost use Rattle.algebra.specs.Matrix.{at, cell, identity, transpose, add, sub, mul, matvec, vecAdd, vecSub, vecScale, dot as dotOf};
+ghost use Rattle.algebra.specs.Array.{padRow, pad, rowsOfFlat, flatOfRows};
+ghost use Rattle.matrix.specs.Size.{count, front, part};
+ghost use Rattle.matrix.specs.Kernel.{plusScaled, rowTimes, rowTimesTransposed};
 
 // ---- rows: all four numbers
 
@@ -37,6 +33,23 @@ pub fn row_scaled(v: [f64; 4], s: f64) -> [f64; 4]
     ensures { λ r. ⌜ r ≡ vecScale 4 v s ⌝ }
 {
     [v[0] * s, v[1] * s, v[2] * s, v[3] * s]
+}
+
+// The first n numbers of v, then +0.
+pub fn leading(v: [f64; 4], n: Size) -> [f64; 4]
+    ensures { λ r. ⌜ r ≡ padRow (front n v) ⌝ }
+{
+    let k = number(n);
+    if k == 1 {
+        return [v[0], 0.0, 0.0, 0.0];
+    }
+    if k == 2 {
+        return [v[0], v[1], 0.0, 0.0];
+    }
+    if k == 3 {
+        return [v[0], v[1], v[2], 0.0];
+    }
+    [v[0], v[1], v[2], v[3]]
 }
 
 // Column j, as a row.
@@ -60,42 +73,43 @@ fn row_plus_scaled(s: [f64; 4], x: f64, v: [f64; 4]) -> [f64; 4]
 }
 
 // The rows r0 to r3, of which k are used, each times its number of v: a sum in each of the four columns, which starts
-// at +0 and goes over the used k terms. A k that is no size counts as 4.
+// at +0 and goes over the used k terms.
 fn combination(
     v: [f64; 4],
     r0: [f64; 4],
     r1: [f64; 4],
     r2: [f64; 4],
     r3: [f64; 4],
-    k: usize,
+    k: Size,
 ) -> [f64; 4]
-    ensures { λ r. ⌜ r ≡ rowTimes (sizeOrFour k) v (r0 ∷ r1 ∷ r2 ∷ r3 ∷ []) ⌝ }
+    ensures { λ r. ⌜ r ≡ rowTimes (count k) v (r0 ∷ r1 ∷ r2 ∷ r3 ∷ []) ⌝ }
 {
+    let n = number(k);
     let s1 = row_plus_scaled([0.0; 4], v[0], r0);
-    if k == 1 {
+    if n == 1 {
         return s1;
     }
     let s2 = row_plus_scaled(s1, v[1], r1);
-    if k == 2 {
+    if n == 2 {
         return s2;
     }
     let s3 = row_plus_scaled(s2, v[2], r2);
-    if k == 3 {
+    if n == 3 {
         return s3;
     }
     row_plus_scaled(s3, v[3], r3)
 }
 
-// v, of k components, times b, in all four columns. A k that is no size counts as 4.
-pub fn row_product(v: [f64; 4], b: &[[f64; 4]; 4], k: usize) -> [f64; 4]
-    ensures { λ r. ⌜ r ≡ rowTimes (sizeOrFour k) v (now (b .entry)) ⌝ }
+// v, of k components, times b, in all four columns.
+pub fn row_product(v: [f64; 4], b: &[[f64; 4]; 4], k: Size) -> [f64; 4]
+    ensures { λ r. ⌜ r ≡ rowTimes (count k) v (now (b .entry)) ⌝ }
 {
     combination(v, b[0], b[1], b[2], b[3], k)
 }
 
-// v times transposed b, likewise. A k that is no size counts as 4.
-pub fn row_product_transposed(v: [f64; 4], b: &[[f64; 4]; 4], k: usize) -> [f64; 4]
-    ensures { λ r. ⌜ r ≡ rowTimesTransposed (sizeOrFour k) v (now (b .entry)) ⌝ }
+// v times transposed b, likewise.
+pub fn row_product_transposed(v: [f64; 4], b: &[[f64; 4]; 4], k: Size) -> [f64; 4]
+    ensures { λ r. ⌜ r ≡ rowTimesTransposed (count k) v (now (b .entry)) ⌝ }
 {
     combination(v, column(b, 0), column(b, 1), column(b, 2), column(b, 3), k)
 }
@@ -103,14 +117,13 @@ pub fn row_product_transposed(v: [f64; 4], b: &[[f64; 4]; 4], k: usize) -> [f64;
 // ---- matrices
 
 // The r rows and c columns that are used, and +0 outside.
-pub fn used_part(a: &[[f64; 4]; 4], r: usize, c: usize) -> [[f64; 4]; 4]
-    ensures { λ p. ⌜ p ≡ rowsOf (where-sized (shaped r c) (used r c (now (a .entry)))) ⌝ }
+pub fn used_part(a: &[[f64; 4]; 4], r: Size, c: Size) -> [[f64; 4]; 4]
+    ensures { λ p. ⌜ p ≡ pad (part r c (now (a .entry))) ⌝ }
 {
+    let rows = number(r);
     let mut out = [[0.0; 4]; 4];
-    if is_shape(r, c) {
-        for i in 0..r {
-            out[i] = kept(a[i], c);
-        }
+    for i in 0..rows {
+        out[i] = leading(a[i], c);
     }
     out
 }
@@ -119,60 +132,50 @@ pub fn used_part(a: &[[f64; 4]; 4], r: usize, c: usize) -> [[f64; 4]; 4]
 pub fn product<'a>(
     a: &'a [[f64; 4]; 4],
     b: &'a [[f64; 4]; 4],
-    r: usize,
-    k: usize,
-    c: usize,
+    r: Size,
+    k: Size,
+    c: Size,
 ) -> [[f64; 4]; 4]
-    ensures { λ p. ⌜ p ≡ rowsOf (where-sized (chained r k k c) (mul r k c (used r k (now (a .entry))) (used k c (now (b .entry))))) ⌝ }
+    ensures { λ p. ⌜ p ≡ pad (mul (count r) (count k) (count c) (part r k (now (a .entry))) (part k c (now (b .entry)))) ⌝ }
 {
     let none = [0.0; 4];
-    if is_chained(r, k, k, c) {
-        let r0 = kept(row_product(a[0], b, k), c);
-        if r == 1 {
-            return [r0, none, none, none];
-        }
-        let r1 = kept(row_product(a[1], b, k), c);
-        if r == 2 {
-            return [r0, r1, none, none];
-        }
-        let r2 = kept(row_product(a[2], b, k), c);
-        if r == 3 {
-            return [r0, r1, r2, none];
-        }
-        let r3 = kept(row_product(a[3], b, k), c);
-        [r0, r1, r2, r3]
-    } else {
-        [none, none, none, none]
+    let rows = number(r);
+    let r0 = leading(row_product(a[0], b, k), c);
+    if rows == 1 {
+        return [r0, none, none, none];
     }
+    let r1 = leading(row_product(a[1], b, k), c);
+    if rows == 2 {
+        return [r0, r1, none, none];
+    }
+    let r2 = leading(row_product(a[2], b, k), c);
+    if rows == 3 {
+        return [r0, r1, r2, none];
+    }
+    let r3 = leading(row_product(a[3], b, k), c);
+    [r0, r1, r2, r3]
 }
 
 // a + b, both of r rows and c columns.
-pub fn sum<'a>(a: &'a [[f64; 4]; 4], b: &'a [[f64; 4]; 4], r: usize, c: usize) -> [[f64; 4]; 4]
-    ensures { λ p. ⌜ p ≡ rowsOf (where-sized (shaped r c) (add r c (used r c (now (a .entry))) (used r c (now (b .entry))))) ⌝ }
+pub fn sum<'a>(a: &'a [[f64; 4]; 4], b: &'a [[f64; 4]; 4], r: Size, c: Size) -> [[f64; 4]; 4]
+    ensures { λ p. ⌜ p ≡ pad (add (count r) (count c) (part r c (now (a .entry))) (part r c (now (b .entry)))) ⌝ }
 {
+    let rows = number(r);
     let mut out = [[0.0; 4]; 4];
-    if is_shape(r, c) {
-        for i in 0..r {
-            out[i] = kept(row_sum(a[i], b[i]), c);
-        }
+    for i in 0..rows {
+        out[i] = leading(row_sum(a[i], b[i]), c);
     }
     out
 }
 
 // a - b.
-pub fn difference<'a>(
-    a: &'a [[f64; 4]; 4],
-    b: &'a [[f64; 4]; 4],
-    r: usize,
-    c: usize,
-) -> [[f64; 4]; 4]
-    ensures { λ p. ⌜ p ≡ rowsOf (where-sized (shaped r c) (sub r c (used r c (now (a .entry))) (used r c (now (b .entry))))) ⌝ }
+pub fn difference<'a>(a: &'a [[f64; 4]; 4], b: &'a [[f64; 4]; 4], r: Size, c: Size) -> [[f64; 4]; 4]
+    ensures { λ p. ⌜ p ≡ pad (sub (count r) (count c) (part r c (now (a .entry))) (part r c (now (b .entry)))) ⌝ }
 {
+    let rows = number(r);
     let mut out = [[0.0; 4]; 4];
-    if is_shape(r, c) {
-        for i in 0..r {
-            out[i] = kept(row_difference(a[i], b[i]), c);
-        }
+    for i in 0..rows {
+        out[i] = leading(row_difference(a[i], b[i]), c);
     }
     out
 }
@@ -189,14 +192,13 @@ pub fn identity_rows() -> [[f64; 4]; 4]
 }
 
 // a, of r rows and c columns, transposed.
-pub fn transposed(a: &[[f64; 4]; 4], r: usize, c: usize) -> [[f64; 4]; 4]
-    ensures { λ p. ⌜ p ≡ rowsOf (where-sized (shaped r c) (transpose r c (used r c (now (a .entry))))) ⌝ }
+pub fn transposed(a: &[[f64; 4]; 4], r: Size, c: Size) -> [[f64; 4]; 4]
+    ensures { λ p. ⌜ p ≡ pad (transpose (count r) (count c) (part r c (now (a .entry)))) ⌝ }
 {
+    let columns = number(c);
     let mut out = [[0.0; 4]; 4];
-    if is_shape(r, c) {
-        for i in 0..c {
-            out[i] = kept(column(a, i), r);
-        }
+    for i in 0..columns {
+        out[i] = leading(column(a, i), r);
     }
     out
 }
@@ -204,34 +206,22 @@ pub fn transposed(a: &[[f64; 4]; 4], r: usize, c: usize) -> [[f64; 4]; 4]
 // ---- vectors
 
 // a, of r rows and n columns, times v, of n components.
-pub fn product_vector<'a>(a: &'a [[f64; 4]; 4], v: &'a [f64; 4], r: usize, n: usize) -> [f64; 4]
-    ensures { λ p. ⌜ p ≡ cellsOf (where-sized (shaped r n) (matvec r n (used r n (now (a .entry))) (cut n (now (v .entry))))) ⌝ }
+pub fn product_vector<'a>(a: &'a [[f64; 4]; 4], v: &'a [f64; 4], r: Size, n: Size) -> [f64; 4]
+    ensures { λ p. ⌜ p ≡ padRow (matvec (count r) (count n) (part r n (now (a .entry))) (front n (now (v .entry)))) ⌝ }
 {
-    if is_shape(r, n) {
-        kept(row_product_transposed(*v, a, n), r)
-    } else {
-        [0.0; 4]
-    }
+    leading(row_product_transposed(*v, a, n), r)
 }
 
-pub fn vector_sum(v: [f64; 4], w: [f64; 4], n: usize) -> [f64; 4]
-    ensures { λ p. ⌜ p ≡ cellsOf (where-sized (sized n) (vecAdd n (cut n v) (cut n w))) ⌝ }
+pub fn vector_sum(v: [f64; 4], w: [f64; 4], n: Size) -> [f64; 4]
+    ensures { λ p. ⌜ p ≡ padRow (vecAdd (count n) (front n v) (front n w)) ⌝ }
 {
-    if is_size(n) {
-        kept(row_sum(v, w), n)
-    } else {
-        [0.0; 4]
-    }
+    leading(row_sum(v, w), n)
 }
 
-pub fn vector_difference(v: [f64; 4], w: [f64; 4], n: usize) -> [f64; 4]
-    ensures { λ p. ⌜ p ≡ cellsOf (where-sized (sized n) (vecSub n (cut n v) (cut n w))) ⌝ }
+pub fn vector_difference(v: [f64; 4], w: [f64; 4], n: Size) -> [f64; 4]
+    ensures { λ p. ⌜ p ≡ padRow (vecSub (count n) (front n v) (front n w)) ⌝ }
 {
-    if is_size(n) {
-        kept(row_difference(v, w), n)
-    } else {
-        [0.0; 4]
-    }
+    leading(row_difference(v, w), n)
 }
 
 // The sum of the first n products of v and w; +0 where n is above 4.
@@ -279,9 +269,9 @@ pub fn to_flat(rows: &[[f64; 4]; 4]) -> [f64; 16]
     out
 }
 
-// The used part of an array of rows, flat, +0 outside; all +0 where r or c is no size.
-pub fn flat_part(a: &[[f64; 4]; 4], r: usize, c: usize) -> [f64; 16]
-    ensures { λ f. ⌜ f ≡ flatOfRows (rowsOf (where-sized (shaped r c) (used r c (now (a .entry))))) ⌝ }
+// The used part of an array of rows, flat, +0 outside.
+pub fn flat_part(a: &[[f64; 4]; 4], r: Size, c: Size) -> [f64; 16]
+    ensures { λ f. ⌜ f ≡ flatOfRows (pad (part r c (now (a .entry)))) ⌝ }
 {
     let rows = used_part(a, r, c);
     to_flat(&rows)

@@ -1,14 +1,14 @@
-// src/core/matrix.rs at f64: matrices of at most 4 rows and 4 columns as arrays of arrays, with the used
-// sizes beside them. Here are the results, the tests of sizes and `matmul`; the operations behind references
-// are in kernel.rt. Cells outside the used part are ignored on entry and +0 in a result.
+// src/core/matrix.rs at f64: matrices of at most 4 rows and 4 columns as arrays of arrays, with the used sizes beside
+// them. Here are the results, sizes and their tests, and `matmul`; the operations behind references are in kernel.rt.
+// Cells outside the used part are ignored on entry and +0 in a result.
 ghost use mathlib.Core.Path.{_≡_};
 ghost use mathlib.Core.Bool.{_&&_};
 ghost use mathlib.Core.List.{[]};
 ghost use Rattle.answer.specs.Answer.{where-sized};
-ghost use Rattle.matrix.specs.Matrix.{mul};
-ghost use Rattle.matrix.specs.Array.{cut, used, padRow, pad};
-ghost use Rattle.matrix.specs.Result.{matrixResult, vectorResult, asMatrix, sized, shaped, alike, chained, inside, sizeOrFour};
-ghost use Rattle.matrix.specs.Kernel.{paired, applicable};
+ghost use Rattle.algebra.specs.Matrix.{mul};
+ghost use Rattle.algebra.specs.Array.{used, padRow, pad};
+ghost use Rattle.matrix.specs.Result.{matrixResult, vectorResult, asMatrix};
+ghost use Rattle.matrix.specs.Size.{count, sizeOf, sized, shaped, alike, chained, inside, paired, applicable};
 
 pub mod kernel;
 
@@ -70,7 +70,40 @@ pub fn vector_refused(number: u8) -> VectorResult
     vector_result(Status::Refused(number), [0.0; 4])
 }
 
-// ---- sizes, tested by one bool
+// ---- sizes
+
+// How many rows, columns or numbers of an array of four are used.
+pub enum Size {
+    One,
+    Two,
+    Three,
+    Four,
+}
+
+pub fn number(n: Size) -> usize
+    ensures { λ k. ⌜ k ≡ count n ⌝ }
+{
+    match n {
+        Size::One => 1,
+        Size::Two => 2,
+        Size::Three => 3,
+        Size::Four => 4,
+    }
+}
+
+// The size of n, which a caller has tested to be one.
+pub fn size_of(n: usize) -> Size
+    ensures { λ s. ⌜ s ≡ sizeOf n ⌝ }
+{
+    match n {
+        1 => Size::One,
+        2 => Size::Two,
+        3 => Size::Three,
+        _ => Size::Four,
+    }
+}
+
+// ---- the tests of what a call is given for sizes, each one bool
 
 pub fn both(x: bool, y: bool) -> bool
     ensures { λ r. ⌜ r ≡ x && y ⌝ }
@@ -126,22 +159,6 @@ pub fn is_applicable(r: usize, c: usize, n: usize) -> bool
     both(is_shape(r, c), c == n)
 }
 
-// The first c numbers of v, then +0; all four where c is no size.
-pub fn kept(v: [f64; 4], c: usize) -> [f64; 4]
-    ensures { λ r. ⌜ r ≡ padRow (cut (sizeOrFour c) v) ⌝ }
-{
-    if c == 1 {
-        return [v[0], 0.0, 0.0, 0.0];
-    }
-    if c == 2 {
-        return [v[0], v[1], 0.0, 0.0];
-    }
-    if c == 3 {
-        return [v[0], v[1], v[2], 0.0];
-    }
-    [v[0], v[1], v[2], v[3]]
-}
-
 // ---- the product
 
 // a, of ar rows and ac columns, times b, of br rows and bc columns. Refused with 1: a size, or ac is not br.
@@ -156,7 +173,10 @@ pub fn matmul(
     ensures { λ r. ⌜ r ≡ asMatrix (where-sized (chained ar ac br bc) (mul ar ac bc (used ar ac a) (used ac bc b))) ⌝ }
 {
     if is_chained(ar, ac, br, bc) {
-        matrix_result(Status::Done, kernel::product(&a, &b, ar, ac, bc))
+        let r = size_of(ar);
+        let k = size_of(ac);
+        let c = size_of(bc);
+        matrix_result(Status::Done, kernel::product(&a, &b, r, k, c))
     } else {
         matrix_refused(1)
     }

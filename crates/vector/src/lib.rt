@@ -8,20 +8,20 @@ use matrix::is_applicable;
 use matrix::is_paired;
 use matrix::is_shape;
 use matrix::is_size;
-use matrix::kept;
 use matrix::kernel;
 use matrix::matrix_refused;
 use matrix::matrix_result;
+use matrix::size_of;
 use matrix::vector_refused;
 use matrix::vector_result;
 use scalar::ControlScalar;
 ghost use mathlib.Core.Path.{_≡_};
-ghost use Prim.Native.Nat.{_≤_};
 ghost use Rattle.answer.specs.Answer.{where-sized};
-ghost use Rattle.matrix.specs.Matrix.{matvec as matvecOf, outer as outerOf, vecAdd, vecSub, vecScale, dot, vecNorm};
-ghost use Rattle.matrix.specs.Array.{cut, used, pad};
-ghost use Rattle.matrix.specs.Result.{asMatrix, asVector, asScalar, sized, shaped};
-ghost use Rattle.matrix.specs.Kernel.{paired, applicable};
+ghost use Rattle.answer.specs.Table.{table};
+ghost use Rattle.algebra.specs.Matrix.{at, matvec as matvecOf, outer as outerOf, vecAdd, vecSub, vecScale, dot, vecNorm};
+ghost use Rattle.algebra.specs.Array.{cut, used};
+ghost use Rattle.matrix.specs.Result.{asMatrix, asVector, asScalar};
+ghost use Rattle.matrix.specs.Size.{sized, shaped, paired, applicable};
 
 // ---- products
 
@@ -30,21 +30,23 @@ pub fn matvec(a: [[f64; 4]; 4], r: usize, c: usize, v: [f64; 4], n: usize) -> Ve
     ensures { λ p. ⌜ p ≡ asVector (where-sized (applicable r c n) (matvecOf r c (used r c a) (cut c v))) ⌝ }
 {
     if is_applicable(r, c, n) {
-        vector_result(Status::Done, kernel::product_vector(&a, &v, r, c))
+        let rows = size_of(r);
+        let cols = size_of(c);
+        vector_result(Status::Done, kernel::product_vector(&a, &v, rows, cols))
     } else {
         vector_refused(1)
     }
 }
 
-fn outer_rows(v: [f64; 4], r: usize, w: [f64; 4], c: usize) -> [[f64; 4]; 4]
-    requires { ⌜ (r ≤ 4) × (1 ≤ c) × (c ≤ 4) ⌝ }
-    ensures { λ p. ⌜ p ≡ pad (outerOf r c (cut r v) (cut c w)) ⌝ }
+// Row i is w times number i of v.
+fn outer_rows(v: [f64; 4], w: [f64; 4]) -> [[f64; 4]; 4]
+    ensures { λ p. ⌜ p ≡ table 4 (λ i. vecScale 4 w (at v i)) ⌝ }
 {
-    let mut out = [[0.0; 4]; 4];
-    for i in 0..r {
-        out[i] = kept(kernel::row_scaled(w, v[i]), c);
-    }
-    out
+    let r0 = kernel::row_scaled(w, v[0]);
+    let r1 = kernel::row_scaled(w, v[1]);
+    let r2 = kernel::row_scaled(w, v[2]);
+    let r3 = kernel::row_scaled(w, v[3]);
+    [r0, r1, r2, r3]
 }
 
 // v, of r components, times transposed w, of c. Refused with 1: a size.
@@ -52,7 +54,10 @@ pub fn outer(v: [f64; 4], r: usize, w: [f64; 4], c: usize) -> MatrixResult
     ensures { λ p. ⌜ p ≡ asMatrix (where-sized (shaped r c) (outerOf r c (cut r v) (cut c w))) ⌝ }
 {
     if is_shape(r, c) {
-        matrix_result(Status::Done, outer_rows(v, r, w, c))
+        let rows = size_of(r);
+        let cols = size_of(c);
+        let m = outer_rows(v, w);
+        matrix_result(Status::Done, kernel::used_part(&m, rows, cols))
     } else {
         matrix_refused(1)
     }
@@ -65,7 +70,8 @@ pub fn vec_add(a: [f64; 4], n: usize, b: [f64; 4], m: usize) -> VectorResult
     ensures { λ r. ⌜ r ≡ asVector (where-sized (paired n m) (vecAdd n (cut n a) (cut n b))) ⌝ }
 {
     if is_paired(n, m) {
-        vector_result(Status::Done, kernel::vector_sum(a, b, n))
+        let k = size_of(n);
+        vector_result(Status::Done, kernel::vector_sum(a, b, k))
     } else {
         vector_refused(1)
     }
@@ -75,7 +81,8 @@ pub fn vec_sub(a: [f64; 4], n: usize, b: [f64; 4], m: usize) -> VectorResult
     ensures { λ r. ⌜ r ≡ asVector (where-sized (paired n m) (vecSub n (cut n a) (cut n b))) ⌝ }
 {
     if is_paired(n, m) {
-        vector_result(Status::Done, kernel::vector_difference(a, b, n))
+        let k = size_of(n);
+        vector_result(Status::Done, kernel::vector_difference(a, b, k))
     } else {
         vector_refused(1)
     }
@@ -86,7 +93,8 @@ pub fn vec_scale(a: [f64; 4], n: usize, s: f64) -> VectorResult
     ensures { λ r. ⌜ r ≡ asVector (where-sized (sized n) (vecScale n (cut n a) s)) ⌝ }
 {
     if is_size(n) {
-        vector_result(Status::Done, kept(kernel::row_scaled(a, s), n))
+        let k = size_of(n);
+        vector_result(Status::Done, kernel::leading(kernel::row_scaled(a, s), k))
     } else {
         vector_refused(1)
     }

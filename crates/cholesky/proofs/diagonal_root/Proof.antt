@@ -1,7 +1,6 @@
 -- `diagonal_root` meets its contract: its test is the definition's.
-use borrow.Author.Needs.{needs}
 use lib.Ieee.{le}
-use Rattle.cholesky.specs.Cholesky.{noDiagonal, diagonalOf}
+use Rattle.algebra.specs.Cholesky.{noDiagonal, diagonalOf}
 use Rattle.cholesky.proofs.diagonal_root.Statement.{statement}
 use Rattle.cholesky.proofs.diagonal_root.Tie as tie
 
@@ -14,4 +13,4 @@ unfolding noDiagonal diagonalOf le
 returns-2 c = simp (c .sqrt .ensures, c .before .if1 .left)
 
 pub diagonal-root-spec : {M : Type 1} → statement M
-diagonal-root-spec = tie.close (tie.spec (λ c κs. search needs) returns returns-2)
+diagonal-root-spec = tie.close (tie.spec (λ c κs. tt) returns returns-2)

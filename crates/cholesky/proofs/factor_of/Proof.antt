@@ -1,20 +1,68 @@
--- `factor_of` meets its contract: a right size goes to `factor_rows`, any other is refused with 1.
-use mathlib.Core.Path.{sym, _∙_}
+-- `factor_of` meets its contract: each turn makes the definition's next row, or its refusal.
+use Prim.Native.Nat.{_-_}
+use mathlib.Core.Path.{sym, ap, _∙_}
 use native.Mathlib.Omega.{arith}
 use borrow.Author.Needs.{needs}
-use Rattle.matrix.specs.Result.{asMatrix}
-use Rattle.matrix.proofs.Results.{size-of, if-answered, if-refused}
+use Rattle.answer.specs.declared.Status.the-variants.{Done}
+use Rattle.matrix.specs.Result.{matrixResult, asMatrix}
+use Rattle.matrix.proofs.Sizes.{bounds}
+use Rattle.matrix.proofs.Results.{answered-value, refused-number}
+use Rattle.matrix.proofs.Kernels.{dot-sized}
+use Rattle.cholesky.proofs.Loops.{Factoring, factoring-none, factoring-more, factoring-refused, factoring-all, factor-at}
 use Rattle.cholesky.proofs.factor_of.Statement.{statement}
 use Rattle.cholesky.proofs.factor_of.Tie as tie
 
-factor-rows-requires : tie.Need-factor-rows-requires
-factor-rows-requires c κs = let s = size-of _ (sym (c .before .is-size .ensures) ∙ c .if1 .taken) in omega arith
+abbrev Inv-loop : tie.InvT-loop
+Inv-loop a rows l₀ i₀ l i = Factoring rows a i l
 
-returns : tie.Need-returns
-returns c = if-answered asMatrix _ (sym (c .before .before .is-size .ensures) ∙ c .before .if1 .taken) (c .factor-rows .ensures)
+abbrev μ-loop : tie.MeasureT-loop
+μ-loop a rows l₀ i₀ l i = rows - i
 
-returns-2 : tie.Need-returns-2
-returns-2 c = if-refused asMatrix _ (sym (c .before .before .is-size .ensures) ∙ c .before .if1 .left) (c .matrix-refused .ensures)
+loop-holds : tie.Need-loop-holds Inv-loop μ-loop
+loop-holds c = factoring-none _ _ (omega (arith, c .number .ensures, bounds (c .before .args .n)))
+
+loop-again : tie.Need-loop-again Inv-loop μ-loop
+loop-again c =
+    let d = c .before .before .before in
+    let v = d .before .before .before .before .before in
+    let e = v .before .before .before .loop in
+    factoring-more (e .inv) (omega arith) (v .left-cells .ensures) (dot-sized (e .i) (d .before .dot .ensures) (omega arith))
+    (answered-value _ (d .diagonal-root .ensures) (c .before .x .given .1))
+
+returns : tie.Need-returns Inv-loop μ-loop
+returns c =
+    let d = c .before .before .before .before in
+    let v = d .before .before .before .before .before in
+    let l = v .before .before .before in
+    let e = l .loop in
+    c .matrix-refused .ensures
+    ∙ sym (ap asMatrix (factor-at _ (l .before .number .ensures)
+    (factoring-refused (e .inv) (omega arith) (v .left-cells .ensures) (dot-sized (e .i) (d .before .dot .ensures) (omega arith))
+    (refused-number _ (d .diagonal-root .ensures) (c .before .before .number2 .given .1)))))
+
+returns-2 : tie.Need-returns-2 Inv-loop μ-loop
+returns-2 c =
+    let l = c .before .before in
+    let e = l .loop .inv in
+    c .matrix-result .ensures
+    ∙ ap (matrixResult Done) (e .is)
+    ∙ sym (ap asMatrix (factor-at _ (l .before .number .ensures) (factoring-all e (omega arith))))
 
 pub factor-of-spec : {M : Type 1} → statement M
-factor-of-spec = tie.close (tie.spec (λ c κs. search needs) factor-rows-requires (λ c κs. search needs) returns returns-2)
+factor-of-spec =
+    tie.close
+    (tie.spec
+    Inv-loop
+    μ-loop
+    (λ c κs. tt)
+    loop-holds
+    (λ c κs. omega arith)
+    (λ c. omega arith) (λ c. omega arith) (λ c. omega arith) (λ c. omega arith)
+    (λ c κs. tt) (λ c κs. tt) (λ c. search needs)
+    (λ c. omega arith) (λ c. omega arith) (λ c. omega arith) (λ c. omega arith)
+    (λ c. search needs) (λ c κs. tt)
+    returns
+    (λ c. omega arith) (λ c. omega arith)
+    loop-again
+    (λ c κs. tt)
+    returns-2)

@@ -1,8 +1,8 @@
 -- `left_cells` meets its contract: each turn makes the definition's next cell.
 use Prim.Native.Nat.{_-_}
 use native.Mathlib.Omega.{arith}
-use Rattle.matrix.specs.Matrix.{row}
-use Rattle.matrix.proofs.Vectors.{dot-sized}
+use Rattle.algebra.specs.Matrix.{row}
+use Rattle.matrix.proofs.Kernels.{dot-sized}
 use Rattle.cholesky.proofs.Loops.{Lefts, lefts-none, lefts-more, lefts-all}
 use Rattle.cholesky.proofs.left_cells.Statement.{statement}
 use Rattle.cholesky.proofs.left_cells.Tie as tie
@@ -31,20 +31,9 @@ left-cells-spec =
     Inv-loop
     μ-loop
     loop-holds
-    (λ c. omega arith)
-    (λ c. omega arith)
-    (λ c κs. tt)
-    (λ c. omega arith)
-    (λ c. omega arith)
-    (λ c. omega arith)
-    (λ c. omega arith)
-    (λ c. omega arith)
-    (λ c. omega arith)
-    (λ c. omega arith)
-    (λ c. omega arith)
-    (λ c. omega arith)
-    (λ c. omega arith)
-    (λ c. omega arith)
-    (λ c. omega arith)
+    (λ c. omega arith) (λ c. omega arith) (λ c κs. tt) (λ c. omega arith)
+    (λ c. omega arith) (λ c. omega arith) (λ c. omega arith) (λ c. omega arith)
+    (λ c. omega arith) (λ c. omega arith) (λ c. omega arith) (λ c. omega arith)
+    (λ c. omega arith) (λ c. omega arith) (λ c. omega arith)
     loop-again
     returns)

@@ -1,5 +1,5 @@
 -- `neg` meets its contract: it is `scale` by -1.
-use Rattle.matrix.specs.Matrix.{negated}
+use Rattle.algebra.specs.Matrix.{negated}
 use Rattle.elementwise.proofs.neg.Statement.{statement}
 use Rattle.elementwise.proofs.neg.Tie as tie
 

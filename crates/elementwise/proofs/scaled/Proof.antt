@@ -1,46 +1,24 @@
--- `scaled` meets its contract: a turn stores one row of products (`Rows`).
-use Prim.Native.Nat.{_-_}
-use mathlib.Core.Path.{_∙_}
-use Rattle.scalar.specs.Number.{_⊗_}
-use Rattle.answer.specs.Table.{table}
-use Rattle.matrix.specs.Matrix.{cell, vecScale}
-use Rattle.matrix.proofs.Arrays.{Rows, rows-none, rows-more, rows-all, kept-row}
-use Rattle.matrix.proofs.Results.{size}
+-- `scaled` meets its contract: four rows of products.
+use mathlib.Core.List.{[], _∷_}
 use native.Mathlib.Omega.{arith}
-use Rattle.elementwise.proofs.Cells.{scale-used}
+use Rattle.algebra.specs.Matrix.{scale, vecScale}
 use Rattle.elementwise.proofs.scaled.Statement.{statement}
 use Rattle.elementwise.proofs.scaled.Tie as tie
 
-abbrev Inv-loop : tie.InvT-loop
-Inv-loop a r c s out₀ i₀ out i = Rows (λ i. table c (λ j. cell a i j ⊗ s)) r i out
-
-abbrev μ-loop : tie.MeasureT-loop
-μ-loop a r c s out₀ i₀ out i = r - i
-
-loop-holds : tie.Need-loop-holds Inv-loop μ-loop
-loop-holds c = rows-none _ _
-
-loop-again : tie.Need-loop-again Inv-loop μ-loop
-unfolding vecScale
-loop-again c = rows-more (c .before .before .before .before .loop .inv) (omega arith) (omega arith) (c .kept .ensures ∙ kept-row _ _ _ (size (omega arith) (omega arith)) (c .before .row-scaled .ensures))
-
-returns : tie.Need-returns Inv-loop μ-loop
-returns c = rows-all (c .before .loop .inv) (omega arith) (scale-used _ _ _ _)
+returns : tie.Need-returns
+unfolding scale vecScale
+returns c =
+    let r2 = c .before .before in
+    let r1 = r2 .before .before in
+    let r0 = r1 .before .before in
+    λ i. r0 .row-scaled .ensures i ∷ r1 .row-scaled2 .ensures i ∷ r2 .row-scaled3 .ensures i ∷ c .row-scaled4 .ensures i ∷ []
 
 pub scaled-spec : {M : Type 1} → statement M
 scaled-spec =
     tie.close
     (tie.spec
-    Inv-loop
-    μ-loop
-    loop-holds
-    (λ c. omega arith)
-    (λ c. omega arith)
-    (λ c κs. tt)
-    (λ c κs. tt)
-    (λ c. omega arith)
-    (λ c. omega arith)
-    (λ c. omega arith)
-    (λ c. omega arith)
-    loop-again
+    (λ c. omega arith) (λ c κs. tt)
+    (λ c. omega arith) (λ c κs. tt)
+    (λ c. omega arith) (λ c κs. tt)
+    (λ c. omega arith) (λ c κs. tt)
     returns)

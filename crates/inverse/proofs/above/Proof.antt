@@ -1,6 +1,5 @@
 -- `above` meets its contract: the magnitudes are what `abs` ensures.
 use lib.Ieee.{lt}
-use borrow.Author.Needs.{needs}
 use Rattle.inverse.proofs.above.Statement.{statement}
 use Rattle.inverse.proofs.above.Tie as tie
 
@@ -8,4 +7,4 @@ returns : tie.Need-returns
 returns c = λ k. lt (c .abs2 .ensures k) (c .before .abs .ensures k)
 
 pub above-spec : {M : Type 1} → statement M
-above-spec = tie.close (tie.spec (λ c κs. search needs) (λ c κs. search needs) returns)
+above-spec = tie.close (tie.spec (λ c κs. tt) (λ c κs. tt) returns)

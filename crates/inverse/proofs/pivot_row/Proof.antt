@@ -2,7 +2,7 @@
 use mathlib.Core.Logic.{⊎-elim}
 use Prim.Native.Nat.{_-_}
 use native.Mathlib.Omega.{arith}
-use Rattle.inverse.proofs.Pivots.{Leading, leading-first, leading-passed, leading-kept, leading-all}
+use Rattle.algebra.proofs.Pivots.{Leading, leading-first, leading-passed, leading-kept, leading-all}
 use Rattle.inverse.proofs.pivot_row.Statement.{statement}
 use Rattle.inverse.proofs.pivot_row.Tie as tie
 
@@ -32,19 +32,10 @@ pivot-row-spec =
     (tie.spec
     Inv-loop
     μ-loop
-    (λ c. omega arith)
-    (λ c. omega arith)
-    (λ c. omega arith)
-    (λ c. omega arith)
-    (λ c κs. tt)
-    (λ c. omega arith)
+    (λ c. omega arith) (λ c. omega arith) (λ c. omega arith) (λ c. omega arith)
+    (λ c κs. tt) (λ c. omega arith)
     loop-holds
-    (λ c. omega arith)
-    (λ c. omega arith)
-    (λ c. omega arith)
-    (λ c. omega arith)
-    (λ c κs. tt)
-    (λ c. omega arith)
-    (λ c. omega arith)
+    (λ c. omega arith) (λ c. omega arith) (λ c. omega arith) (λ c. omega arith)
+    (λ c κs. tt) (λ c. omega arith) (λ c. omega arith)
     loop-again
     returns)

@@ -9,4 +9,4 @@ returns : tie.Need-returns
 returns c = let a = c .before .before .args in record { is = ap (set (a .m .now) (a .col)) (c .row-scaled .ensures) }
 
 pub scale-row-spec : {M : Type 1} → statement M
-scale-row-spec = tie.close (tie.spec (λ c. search needs) (λ c. search needs) (λ c κs. search needs) (λ c. search needs) (λ c. search needs) returns)
+scale-row-spec = tie.close (tie.spec (λ c. search needs) (λ c. search needs) (λ c κs. tt) (λ c. search needs) (λ c. search needs) returns)

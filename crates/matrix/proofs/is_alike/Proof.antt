@@ -1,5 +1,5 @@
 -- `is_alike` meets its contract.
-use Rattle.matrix.specs.Result.{alike}
+use Rattle.matrix.specs.Size.{alike}
 use Rattle.matrix.proofs.is_alike.Statement.{statement}
 use Rattle.matrix.proofs.is_alike.Tie as tie
 

@@ -2,7 +2,7 @@
 use mathlib.Core.Path.{ap, _∙_}
 use mathlib.Core.Bool.{Bool, _&&_}
 use lib.Dec.{eqb}
-use Rattle.matrix.specs.Kernel.{applicable}
+use Rattle.matrix.specs.Size.{applicable}
 use Rattle.matrix.proofs.is_applicable.Statement.{statement}
 use Rattle.matrix.proofs.is_applicable.Tie as tie
 

@@ -1,5 +1,5 @@
 -- `is_chained` meets its contract.
-use Rattle.matrix.specs.Result.{chained}
+use Rattle.matrix.specs.Size.{chained}
 use Rattle.matrix.proofs.is_chained.Statement.{statement}
 use Rattle.matrix.proofs.is_chained.Tie as tie
 

@@ -1,5 +1,5 @@
 -- `is_inside` meets its contract.
-use Rattle.matrix.specs.Result.{inside}
+use Rattle.matrix.specs.Size.{inside}
 use Rattle.matrix.proofs.is_inside.Statement.{statement}
 use Rattle.matrix.proofs.is_inside.Tie as tie
 

@@ -2,7 +2,7 @@
 use mathlib.Core.Path.{ap, _∙_}
 use mathlib.Core.Bool.{Bool, _&&_}
 use lib.Dec.{eqb}
-use Rattle.matrix.specs.Kernel.{paired}
+use Rattle.matrix.specs.Size.{paired}
 use Rattle.matrix.proofs.is_paired.Statement.{statement}
 use Rattle.matrix.proofs.is_paired.Tie as tie
 

@@ -1,5 +1,5 @@
 -- `is_shape` meets its contract.
-use Rattle.matrix.specs.Result.{shaped}
+use Rattle.matrix.specs.Size.{shaped}
 use Rattle.matrix.proofs.is_shape.Statement.{statement}
 use Rattle.matrix.proofs.is_shape.Tie as tie
 

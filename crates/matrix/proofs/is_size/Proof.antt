@@ -1,5 +1,5 @@
 -- `is_size` meets its contract.
-use Rattle.matrix.specs.Result.{sized}
+use Rattle.matrix.specs.Size.{sized}
 use Rattle.matrix.proofs.is_size.Statement.{statement}
 use Rattle.matrix.proofs.is_size.Tie as tie
 

@@ -1,5 +1,5 @@
 -- `matrix_refused` meets its contract.
-use Rattle.matrix.specs.Array.{pad}
+use Rattle.algebra.specs.Array.{pad}
 use Rattle.matrix.proofs.matrix_refused.Statement.{statement}
 use Rattle.matrix.proofs.matrix_refused.Tie as tie
 

@@ -1,14 +1,17 @@
 -- `vec_dot` meets its contract: the sum reads used components only.
 use mathlib.Core.Path.{sym, _∙_}
-use Rattle.matrix.proofs.Results.{size-of, paired-sized, scalar-answered, scalar-refused}
-use Rattle.matrix.proofs.Vectors.{dot-sized, dot-cut}
+use Rattle.algebra.proofs.Vectors.{dot-cut}
+use Rattle.matrix.proofs.Sizes.{bounds-of, paired-size}
+use Rattle.matrix.proofs.Results.{scalar-answered, scalar-refused}
+use Rattle.matrix.proofs.Kernels.{dot-sized}
 use Rattle.vector.proofs.vec_dot.Statement.{statement}
 use Rattle.vector.proofs.vec_dot.Tie as tie
 
 returns : tie.Need-returns
 returns c =
-    let e = sym (c .before .before .before .before .is-paired .ensures) ∙ c .before .before .before .if1 .taken in
-    scalar-answered _ e (dot-sized _ (c .dot .ensures) (size-of _ (paired-sized _ _ e) .most) ∙ sym (dot-cut _ _ _))
+    let t = c .before .before .before in
+    let e = sym (t .before .is-paired .ensures) ∙ t .if1 .taken in
+    scalar-answered _ e (dot-sized _ (c .dot .ensures) (bounds-of _ (paired-size _ _ e) .most) ∙ sym (dot-cut _ _ _))
 
 returns-2 : tie.Need-returns-2
 returns-2 c = scalar-refused _ (sym (c .before .is-paired .ensures) ∙ c .if1 .left)

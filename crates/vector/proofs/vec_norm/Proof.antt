@@ -1,17 +1,20 @@
 -- `vec_norm` meets its contract: the root of the sum of squares, which reads used components only.
 use mathlib.Core.Path.{sym, ap, _∙_}
 use Rattle.root.specs.Root.{root}
-use Rattle.matrix.specs.Matrix.{vecNorm}
-use Rattle.matrix.proofs.Results.{size-of, scalar-answered, scalar-refused}
-use Rattle.matrix.proofs.Vectors.{dot-sized, dot-cut}
+use Rattle.algebra.specs.Matrix.{vecNorm}
+use Rattle.algebra.proofs.Vectors.{dot-cut}
+use Rattle.matrix.proofs.Sizes.{bounds-of}
+use Rattle.matrix.proofs.Results.{scalar-answered, scalar-refused}
+use Rattle.matrix.proofs.Kernels.{dot-sized}
 use Rattle.vector.proofs.vec_norm.Statement.{statement}
 use Rattle.vector.proofs.vec_norm.Tie as tie
 
 returns : tie.Need-returns
 unfolding vecNorm
 returns c =
-    let e = sym (c .before .before .before .before .before .is-size .ensures) ∙ c .before .before .before .before .if1 .taken in
-    scalar-answered _ e (c .sqrt .ensures ∙ ap root (dot-sized _ (c .before .dot .ensures) (size-of _ e .most) ∙ sym (dot-cut _ _ _)))
+    let t = c .before .before .before .before in
+    let e = sym (t .before .is-size .ensures) ∙ t .if1 .taken in
+    scalar-answered _ e (c .sqrt .ensures ∙ ap root (dot-sized _ (c .before .dot .ensures) (bounds-of _ e .most) ∙ sym (dot-cut _ _ _)))
 
 returns-2 : tie.Need-returns-2
 returns-2 c = scalar-refused _ (sym (c .before .is-size .ensures) ∙ c .if1 .left)

@@ -1,17 +1,23 @@
--- `vec_sub` meets its contract: the test passes that of the kernel.
+-- `vec_sub` meets its contract: its two ways out are those of the test of the size, and the components are the kernel's.
 use mathlib.Core.Path.{sym, _∙_}
-use Rattle.matrix.proofs.Results.{paired-sized, vector-refused}
-use Rattle.matrix.proofs.Kernels.{vector-handed}
+use Rattle.algebra.specs.Matrix.{vecSub}
+use Rattle.algebra.specs.Array.{cut}
+use Rattle.matrix.proofs.Sizes.{paired-size}
+use Rattle.matrix.proofs.Results.{vector-refused}
+use Rattle.vector.proofs.Sized.{vector-at}
 use Rattle.vector.proofs.vec_sub.Statement.{statement}
 use Rattle.vector.proofs.vec_sub.Tie as tie
 
 returns : tie.Need-returns
 returns c =
-    let e = sym (c .before .before .before .is-paired .ensures) ∙ c .before .before .if1 .taken in
-    c .vector-result .ensures ∙ vector-handed _ e (paired-sized _ _ e) (c .before .vector-difference .ensures)
+    let s = c .before .before in
+    let t = s .before in
+    let a = t .before .before .args in
+    let e = sym (t .before .is-paired .ensures) ∙ t .if1 .taken in
+    vector-at (λ n. vecSub n (cut n (a .a)) (cut n (a .b))) _ e (paired-size _ _ e) (s .size-of .ensures) (c .vector-result .ensures) (c .before .vector-difference .ensures)
 
 returns-2 : tie.Need-returns-2
 returns-2 c = c .vector-refused .ensures ∙ vector-refused _ (sym (c .before .before .is-paired .ensures) ∙ c .before .if1 .left)
 
 pub vec-sub-spec : {M : Type 1} → statement M
-vec-sub-spec = tie.close (tie.spec (λ c κs. tt) (λ c κs. tt) (λ c κs. tt) (λ c κs. tt) returns returns-2)
+vec-sub-spec = tie.close (tie.spec (λ c κs. tt) (λ c κs. tt) (λ c κs. tt) (λ c κs. tt) (λ c κs. tt) returns returns-2)

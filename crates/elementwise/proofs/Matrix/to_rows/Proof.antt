@@ -1,22 +1,13 @@
 -- `Matrix::to_rows` meets its contract: it is the used part of the rows that stand flat.
-use mathlib.Core.Path.{sym, ap, _∙_}
-use Rattle.matrix.specs.Array.{used, pad}
-use Rattle.matrix.proofs.Results.{sizes-of, matrix-answered, matrix-refused}
-use Rattle.matrix.proofs.Kernels.{rows-sized, used-rowsOfFlat}
+use mathlib.Core.Path.{ap, _∙_}
+use Rattle.algebra.specs.Array.{used}
+use Rattle.algebra.proofs.Arrays.{used-rowsOfFlat}
+use Rattle.elementwise.proofs.Sized.{part-is}
 use Rattle.elementwise.proofs.Matrix.to_rows.Statement.{statement}
 use Rattle.elementwise.proofs.Matrix.to_rows.Tie as tie
 
 returns : tie.Need-returns
-returns c =
-    let e = sym (c .before .before .before .before .before .before .is-shape .ensures) ∙ c .before .before .before .before .before .if1 .taken in
-    let s = sizes-of _ _ e in
-    c .matrix-result .ensures
-    ∙ matrix-answered _ e
-    (rows-sized _ e (c .before .used-part .ensures)
-    ∙ ap pad (ap (used _ _) (c .before .before .before .from-flat .ensures) ∙ used-rowsOfFlat _ _ _ (s .rows .most) (s .cols .most)))
-
-returns-2 : tie.Need-returns-2
-returns-2 c = c .matrix-refused .ensures ∙ matrix-refused _ (sym (c .before .before .is-shape .ensures) ∙ c .before .if1 .left)
+returns c = part-is _ _ _ (λ h g. ap (used _ _) (c .before .before .from-flat .ensures) ∙ used-rowsOfFlat _ _ _ h g) (c .part-of .ensures)
 
 pub to-rows-spec : {M : Type 1} → statement M
-to-rows-spec = tie.close (tie.spec (λ c κs. tt) (λ c κs. tt) (λ c κs. tt) (λ c κs. tt) (λ c κs. tt) returns returns-2)
+to-rows-spec = tie.close (tie.spec (λ c κs. tt) (λ c κs. tt) returns)

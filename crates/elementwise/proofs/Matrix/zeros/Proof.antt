@@ -1,5 +1,5 @@
 -- `Matrix::zeros` meets its contract: it is `filled` with +0.
-use Rattle.matrix.specs.Matrix.{zeros}
+use Rattle.algebra.specs.Matrix.{zeros}
 use Rattle.elementwise.proofs.Matrix.zeros.Statement.{statement}
 use Rattle.elementwise.proofs.Matrix.zeros.Tie as tie
 

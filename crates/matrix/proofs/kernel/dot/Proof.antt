@@ -3,8 +3,8 @@ use Prim.Native.Nat.{_-_, _≤_}
 use mathlib.Core.Path.{refl, sym, _∙_}
 use Rattle.scalar.specs.Number.{_⊗_, +0}
 use Rattle.answer.proofs.Choice.{cond-true, cond-false}
-use Rattle.matrix.specs.Matrix.{at, dot}
-use Rattle.matrix.proofs.Matrices.{Summing, summing-none, summing-more, summing-all}
+use Rattle.algebra.specs.Matrix.{at, dot}
+use Rattle.algebra.proofs.Matrices.{Summing, summing-none, summing-more, summing-all}
 use borrow.Author.Tests.{le-leb, lt-leb}
 use native.Mathlib.Omega.{arith}
 use Rattle.matrix.proofs.kernel.dot.Statement.{statement}

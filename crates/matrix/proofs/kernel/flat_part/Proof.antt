@@ -1,7 +1,7 @@
 -- `kernel::flat_part` meets its contract: the used part, laid flat.
 use mathlib.Core.Path.{ap, _∙_}
 use borrow.Author.Needs.{needs}
-use Rattle.matrix.specs.Kernel.{flatOfRows}
+use Rattle.algebra.specs.Array.{flatOfRows}
 use Rattle.matrix.proofs.kernel.flat_part.Statement.{statement}
 use Rattle.matrix.proofs.kernel.flat_part.Tie as tie
 

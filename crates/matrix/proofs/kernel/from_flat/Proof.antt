@@ -1,8 +1,8 @@
 -- `kernel::from_flat` meets its contract: four rows of four reads each.
 use mathlib.Core.List.{[], _∷_}
 use native.Mathlib.Omega.{arith}
-use Rattle.matrix.specs.Array.{usedFlat}
-use Rattle.matrix.specs.Kernel.{rowsOfFlat}
+use Rattle.algebra.specs.Array.{usedFlat}
+use Rattle.algebra.specs.Array.{rowsOfFlat}
 use Rattle.matrix.proofs.kernel.from_flat.Statement.{statement}
 use Rattle.matrix.proofs.kernel.from_flat.Tie as tie
 

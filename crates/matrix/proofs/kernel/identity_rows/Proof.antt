@@ -1,6 +1,6 @@
 -- `kernel::identity_rows` meets its contract: its rows are those of the definition at 4.
 use mathlib.Core.Path.{refl}
-use Rattle.matrix.specs.Matrix.{identity}
+use Rattle.algebra.specs.Matrix.{identity}
 use Rattle.matrix.proofs.kernel.identity_rows.Statement.{statement}
 use Rattle.matrix.proofs.kernel.identity_rows.Tie as tie
 

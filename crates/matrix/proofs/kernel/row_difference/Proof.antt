@@ -1,7 +1,7 @@
 -- `kernel::row_difference` meets its contract: both lists are the four differences.
 use mathlib.Core.Path.{refl}
 use native.Mathlib.Omega.{arith}
-use Rattle.matrix.specs.Matrix.{vecSub}
+use Rattle.algebra.specs.Matrix.{vecSub}
 use Rattle.matrix.proofs.kernel.row_difference.Statement.{statement}
 use Rattle.matrix.proofs.kernel.row_difference.Tie as tie
 

@@ -1,8 +1,9 @@
 -- `kernel::row_product` meets its contract: the rows of b are combined.
 use mathlib.Core.Path.{refl}
-use Rattle.matrix.specs.Matrix.{row}
+use Rattle.algebra.specs.Matrix.{row}
 use Rattle.matrix.specs.Kernel.{rowTimes}
-use Rattle.matrix.proofs.Arrays.{combination-is}
+use Rattle.matrix.proofs.Kernels.{combination-is}
+use Rattle.matrix.proofs.Sizes.{bounds}
 use borrow.Author.Needs.{needs}
 use Rattle.matrix.proofs.kernel.row_product.Statement.{statement}
 use Rattle.matrix.proofs.kernel.row_product.Tie as tie
@@ -11,7 +12,7 @@ returns : tie.Need-returns
 unfolding rowTimes
 returns c =
     let a = c .before .before .before .before .before .args in
-    combination-is (a .v) (λ t. row (a .b .now) t) _ refl refl refl refl (c .combination .ensures)
+    combination-is (a .v) (λ t. row (a .b .now) t) _ (bounds (a .k) .most) refl refl refl refl (c .combination .ensures)
 
 pub row-product-spec : {M : Type 1} → statement M
 row-product-spec = tie.close (tie.spec (λ c. search needs) (λ c. search needs) (λ c. search needs) (λ c. search needs) (λ c κs. search needs) returns)

@@ -1,7 +1,7 @@
 -- `kernel::row_scaled` meets its contract: both lists are the four products.
 use mathlib.Core.Path.{refl}
 use native.Mathlib.Omega.{arith}
-use Rattle.matrix.specs.Matrix.{vecScale}
+use Rattle.algebra.specs.Matrix.{vecScale}
 use Rattle.matrix.proofs.kernel.row_scaled.Statement.{statement}
 use Rattle.matrix.proofs.kernel.row_scaled.Tie as tie
 

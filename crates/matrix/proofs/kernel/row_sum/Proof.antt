@@ -1,7 +1,7 @@
 -- `kernel::row_sum` meets its contract: both lists are the four sums.
 use mathlib.Core.Path.{refl}
 use native.Mathlib.Omega.{arith}
-use Rattle.matrix.specs.Matrix.{vecAdd}
+use Rattle.algebra.specs.Matrix.{vecAdd}
 use Rattle.matrix.proofs.kernel.row_sum.Statement.{statement}
 use Rattle.matrix.proofs.kernel.row_sum.Tie as tie
 

@@ -2,8 +2,8 @@
 use Prim.Native.Nat.{_-_, _/_, _%_}
 use mathlib.Core.Path.{refl}
 use Rattle.scalar.specs.Number.{+0}
-use Rattle.matrix.specs.Matrix.{cell}
-use Rattle.matrix.specs.Kernel.{flatOfRows}
+use Rattle.algebra.specs.Matrix.{cell}
+use Rattle.algebra.specs.Array.{flatOfRows}
 use Rattle.answer.proofs.Tables.{Filling, filling-none, filling-more, filling-all}
 use native.Mathlib.Omega.{arith}
 use Rattle.matrix.proofs.kernel.to_flat.Statement.{statement}
