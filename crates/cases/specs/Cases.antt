@@ -1,69 +1,17 @@
--- The table of worked cases: those marked for proof in document 01, and others that settle a wrong turn. Its proof is `cases` in proofs/Cases.antt. Definitions only.
-use mathlib.Core.Path.{_≡_}
-use mathlib.Core.Bool.{true, false}
-use mathlib.Core.List.{List, [], _∷_, map}
-use lib.Ieee.{Float, binary64, nan, toBits}
-use Rattle.root.specs.Root.{root}
-use Rattle.answer.specs.Answer.{refused, answered}
-use Rattle.matrix.specs.Matrix.{mul}
-use Rattle.inverse.specs.Inverse.{limit, noPivot, pivotRow, inv}
-use Rattle.inverse.specs.Two.{oneByOne, twoByTwo}
-use Rattle.cholesky.specs.Cholesky.{choleskyOf}
-use Rattle.kalman_step.specs.Kalman.{Estimate, predict, update, tracker, atStart}
-use Rattle.smoothing.specs.Smoother.{Slot, Duty, smooth}
-use Rattle.cases.specs.Values.{−0, n0, n1, n2, n3, n4, n5, n9, n32, n300, n400, n768, n786, n4288, speed, speedVariance, −1, −2, ½, ¼, ¾, ⅓, −⅓, 1−⅓, least, rootOfLeast, √2, limitOfPivots, beforeLimit}
+-- The table of worked cases, collected from the crates whose definitions they are about. Definitions only.
+use Rattle.algebra.specs.Cases as Algebra
+use Rattle.filtering.specs.Cases as Filtering
+use Rattle.filtering.specs.Rust as FilteringRust
+use Rattle.mixing.specs.Cases as Mixing
+use Rattle.smoothing.specs.Cases as Smoothing
 
--- state size 1, transition 1
-abbrev pair : Float → Float → Estimate
-pair x p = record { state = x ∷ []; covariance = oneByOne p }
-
-abbrev slot : Estimate → Estimate → Slot
-slot f p = record { filtered = f; predicted = p }
-
-abbrev duty : List Slot → Duty
-duty l = record { size = 1; transition = oneByOne n1; slots = l }
-
-pub record Cases : Type 0 where
-  -- the numbers are what their names say, by their bits
-  pub bits : map (toBits binary64) (−0 ∷ n2 ∷ n4 ∷ least ∷ √2 ∷ [])
-      ≡ 0x8000_0000_0000_0000 ∷ 0x4000_0000_0000_0000 ∷ 0x4010_0000_0000_0000 ∷ 1 ∷ 0x3ff6_a09e_667f_3bcd ∷ []
-  pub bits-whole : map (toBits binary64) (n0 ∷ n1 ∷ n3 ∷ n5 ∷ n9 ∷ −1 ∷ −2 ∷ [])
-      ≡ 0 ∷ 0x3ff0_0000_0000_0000 ∷ 0x4008_0000_0000_0000 ∷ 0x4014_0000_0000_0000 ∷ 0x4022_0000_0000_0000 ∷ 0xbff0_0000_0000_0000 ∷ 0xc000_0000_0000_0000 ∷ []
-  pub bits-parts : map (toBits binary64) (½ ∷ ¼ ∷ ¾ ∷ ⅓ ∷ 1−⅓ ∷ limitOfPivots ∷ beforeLimit ∷ [])
-      ≡ 0x3fe0_0000_0000_0000 ∷ 0x3fd0_0000_0000_0000 ∷ 0x3fe8_0000_0000_0000 ∷ 0x3fd5_5555_5555_5555 ∷ 0x3fe5_5555_5555_5556 ∷ 0x3dee_8480_0000_0000 ∷ 0x3dee_847f_ffff_ffff ∷ []
-  pub bits-of-tracker : map (toBits binary64) (n32 ∷ n300 ∷ n400 ∷ n768 ∷ n786 ∷ n4288 ∷ speed ∷ speedVariance ∷ [])
-      ≡ 0x4040_0000_0000_0000 ∷ 0x4072_c000_0000_0000 ∷ 0x4079_0000_0000_0000 ∷ 0x4088_0000_0000_0000 ∷ 0x4088_9000_0000_0000
-      ∷ 0x40b0_c000_0000_0000 ∷ 0x4073_3080_0000_0000 ∷ 0x40a6_7578_0000_0000 ∷ []
-  -- the square root
-  pub root-of-4 : root n4 ≡ n2
-  pub root-of-2 : root n2 ≡ √2
-  pub root-of-least : root least ≡ rootOfLeast
-  pub root-of-minus-zero : root −0 ≡ −0
-  -- a product's sum starts at +0
-  pub mul-of-minus-zero : mul 1 1 1 (oneByOne −0) (oneByOne n1) ≡ oneByOne n0
-  -- the inverse: the rows change places; the second column has no pivot; a NaN is a pivot; of two rows of one magnitude the first is the
-  -- pivot, and a row is multiplied by the pivot's reciprocal
-  pub inv-turned : inv 2 (twoByTwo n0 n2 n4 n0) ≡ answered (twoByTwo n0 ¼ ½ n0)
-  pub inv-singular : inv 2 (twoByTwo n1 n2 n2 n4) ≡ refused 3
-  pub inv-of-nan : inv 1 (oneByOne nan) ≡ answered (oneByOne nan)
-  pub inv-first : inv 2 (twoByTwo n1 n1 n1 −2) ≡ answered (twoByTwo 1−⅓ ⅓ ⅓ −⅓)
-  -- its pivot: a NaN below the diagonal never wins, and one on it is never beaten
-  pub pivot-nan-below : pivotRow (twoByTwo n1 n0 nan n0) 0 1 ≡ 0
-  pub pivot-nan-above : pivotRow (twoByTwo nan n0 n1 n0) 0 1 ≡ 0
-  -- a magnitude of just the limit is no refusal, and the number before it is one
-  pub limit-of-pivots : limit ≡ limitOfPivots
-  pub pivot-at-limit : noPivot limitOfPivots ≡ false
-  pub pivot-below-limit : noPivot beforeLimit ≡ true
-  -- Cholesky's factor: the upper triangle, 9, is not read; what is left of a diagonal is zero; a NaN passes; -0 less a sum from +0 on stays -0
-  pub cholesky-lower : choleskyOf 2 (twoByTwo n4 n9 n2 n5) ≡ answered (twoByTwo n2 n0 n1 n2)
-  pub cholesky-not-positive : choleskyOf 2 (twoByTwo n1 n0 n1 n1) ≡ refused 4
-  pub cholesky-of-nan : choleskyOf 1 (oneByOne nan) ≡ answered (oneByOne nan)
-  pub cholesky-sum : choleskyOf 3 ((n1 ∷ nan ∷ nan ∷ []) ∷ (−1 ∷ n2 ∷ nan ∷ []) ∷ (n0 ∷ −0 ∷ n1 ∷ []) ∷ [])
-      ≡ answered ((n1 ∷ n0 ∷ n0 ∷ []) ∷ (−1 ∷ n1 ∷ n0 ∷ []) ∷ (n0 ∷ −0 ∷ n1 ∷ []) ∷ [])
-  -- the tracker: step 1, noises 4288 and 32, one predict, an update with 400
-  pub tracking : update (tracker n1 n4288 n32) (predict (tracker n1 n4288 n32) atStart (n0 ∷ [])) (n400 ∷ [])
-      ≡ answered (record { estimate = record { state = n300 ∷ speed ∷ []; covariance = twoByTwo n768 n786 n786 speedVariance }; innovation = n400 ∷ [] })
-  -- smoothing: slot 0 is moved, and slot 1 stays; its predicted pair, which inversion would reject, is not read
-  pub smoothing : smooth (duty (slot (pair n1 n1) (pair n1 n2) ∷ slot (pair n3 n1) (pair n0 n0) ∷ [])) ≡ answered (pair n2 ¾ ∷ pair n3 n1 ∷ [])
-  pub smoothing-rejected : smooth (duty (slot (pair n1 n1) (pair n1 n0) ∷ slot (pair n3 n1) (pair n1 n2) ∷ [])) ≡ refused 3
-  pub smoothing-no-slot : smooth (duty []) ≡ refused 2
+pub record Table : Type 0 where
+  -- roots, products, inversion and Cholesky's factor
+  pub algebra : Algebra.Cases
+  -- the tracker, and what the refusals of the information and the square-root filter leave
+  pub filtering : Filtering.Cases
+  pub mixing : Mixing.Cases
+  pub smoothing : Smoothing.Cases
+  -- numbers that the running Rust gave
+  pub filtering-rust : FilteringRust.Rust
+  pub mixing-rust : Mixing.Rust

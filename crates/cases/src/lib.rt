@@ -1,2 +1,6 @@
-// The worked cases of the papers, as one table of theorems about the definitions: specs/Cases.antt states
-// them and proofs/Cases.antt proves them by computation. There is no code here.
+// The table of worked cases as one promise: the function does nothing, and the crate is not proved without every case.
+ghost use Rattle.cases.specs.Cases.{Table};
+
+pub fn worked_cases()
+    ensures { λ r. ⌜ Table ⌝ }
+{}

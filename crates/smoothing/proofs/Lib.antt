@@ -1,3 +1,6 @@
 pub mod Backward
 pub mod Smoother
 pub mod Demand3
+pub mod Computing
+pub mod Cases
+pub mod Slots

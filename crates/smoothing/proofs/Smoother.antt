@@ -5,13 +5,13 @@ use mathlib.Core.List.{List, [], _∷_, _++_, map}
 use Prim.Native.Nat.{ℕ, _<_}
 use lib.ListN.{length, take, drop, take-append-drop}
 use Rattle.answer.specs.Answer.{Answer, refused, answered, mapped}
-use Rattle.matrix.specs.Matrix.{Matrix, mul, add, sub, transpose}
+use Rattle.algebra.specs.Matrix.{Matrix, mul, add, sub, transpose}
 use Rattle.answer.proofs.Answers.{same-refusal, same-answer, mapped-refused, refused-mapped}
-use Rattle.inverse.specs.Inverse.{inv}
-use Rattle.inverse.proofs.Laws.{inv-refused}
-use Rattle.kalman_step.specs.Kalman.{Estimate, gain}
+use Rattle.algebra.specs.Inverse.{inv}
+use Rattle.algebra.proofs.Inverses.{inv-refused}
+use Rattle.filtering.specs.Filter.{Estimate, gain}
 use Rattle.smoothing.specs.Backward.{back, pass, BeforeLast, this, later, Same}
-use Rattle.smoothing.specs.Smoother.{Slot, slotGain, movedCovariance, move}
+use Rattle.smoothing.specs.Smoother.{Slot, slotGain, smoothedCovariance, smoothedPair}
 use Rattle.smoothing.specs.Demand3.{Rejected, Covariances, covariances, outcome}
 use Rattle.smoothing.proofs.Backward.{pass-tails, pass-count, pass-refused, refused-pass, same-pass, same-reaches, pass-parts, reaches, from-end}
 
@@ -37,7 +37,7 @@ module _ {S : Type 0} (slotOf : S → Slot) (n : ℕ) (F : S → Matrix) where
   gainOf s = slotGain n (F s) (slotOf s)
 
   abbrev step : S → Matrix → Estimate → Estimate
-  step s = move n (slotOf s)
+  step s = smoothedPair n (slotOf s)
 
   abbrev pub smoothedBy : List S → Answer (List Estimate)
   smoothedBy l = pass start gainOf step l
@@ -101,7 +101,7 @@ module _ {S : Type 0} (slotOf : S → Slot) (n : ℕ) (F : S → Matrix) where
     alone l = pass (λ k. kept k .filtered) (λ k. gainBy (kept k) (E k)) (λ k. moveBy (kept k)) l
 
     by-itself : (l : List S) → outcome (smoothedBy l) ≡ alone (map κ l)
-    unfolding slotGain movedCovariance move gainBy moveBy
+    unfolding slotGain smoothedCovariance smoothedPair gainBy moveBy
     by-itself l =
         pass-parts start gainOf step κ (λ e. e .covariance) (λ k. kept k .filtered) (λ k. gainBy (kept k) (E k)) (λ k. moveBy (kept k))
         (λ s. ap (λ (c : Covariances). c .filtered) (keeps s))

@@ -5,9 +5,9 @@ use mathlib.Core.List.{List, [], _∷_, _++_, map}
 use Prim.Native.Nat.{ℕ, _<_}
 use lib.ListN.{length, drop}
 use Rattle.answer.specs.Answer.{Answer, refused, answered, mapped}
-use Rattle.matrix.specs.Matrix.{Matrix}
-use Rattle.inverse.specs.Inverse.{inv}
-use Rattle.kalman_step.specs.Kalman.{Estimate}
+use Rattle.algebra.specs.Matrix.{Matrix}
+use Rattle.algebra.specs.Inverse.{inv}
+use Rattle.filtering.specs.Filter.{Estimate}
 use Rattle.smoothing.specs.Backward.{BeforeLast, Same}
 use Rattle.smoothing.specs.Smoother.{Slot, Duty}
 

@@ -1,2 +1,8 @@
-// Smoothing whole duties of any length, as a definition: specs/Smoother.antt smooths, specs/Demand3.antt states what
-// is promised of it, and proofs/Demand3.antt proves that. There is no code here.
+// Smoothing by Rauch, Tung and Striebel as a definition for duties of any length and states of any size, in specs/, with
+// demand 3 of it proved in proofs/. The function is a promise: it does nothing, and the crate is not proved without it.
+ghost use Rattle.smoothing.specs.Cases.{Cases};
+
+// The worked cases, computed from the definition.
+pub fn worked_cases()
+    ensures { λ r. ⌜ Cases ⌝ }
+{}

@@ -1,0 +1,13 @@
+// Mixing of several models as definitions for any number of models and states, in specs/. The functions are promises: they
+// do nothing, and the crate is not proved without what their contracts state.
+ghost use Rattle.mixing.specs.Cases.{Cases, Rust};
+
+// The worked cases, computed from the definitions.
+pub fn worked_cases()
+    ensures { λ r. ⌜ Cases ⌝ }
+{}
+
+// Numbers of the running Rust, likewise.
+pub fn as_the_rust()
+    ensures { λ r. ⌜ Rust ⌝ }
+{}
