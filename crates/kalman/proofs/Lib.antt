@@ -1,2 +1,4 @@
+pub mod Ways
+pub mod Steps
 pub mod Records
 pub mod One

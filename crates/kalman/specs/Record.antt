@@ -1,59 +1,72 @@
--- The filter record of the code: which model and estimate it holds, and what each method makes of it. Definitions only.
+-- The filter record of the code: what it holds, and what each method makes of it. Definitions only.
 use Prim.Native.Nat.{ℕ}
 use mathlib.Core.List.{List, [], _∷_}
 use lib.Ieee.{Float}
+use Rattle.answer.specs.Answer.{Answer, where-sized}
+use Rattle.answer.specs.Outcome.{Outcome, into, if-fitting, kept, handed}
+use Rattle.answer.specs.Told.{statusOf}
+use Rattle.algebra.specs.Matrix.{Vector, Matrix}
+use Rattle.algebra.specs.Array.{cut, used, usedFlat, padRow, pad, flatOfRows}
 use Rattle.matrix.specs.declared.MatrixResult.{MatrixResult}
 use Rattle.matrix.specs.declared.VectorResult.{VectorResult}
-use Rattle.answer.specs.declared.Status.the-variants.{Done, Refused}
-use Rattle.answer.specs.Answer.{Answer, refused, answered, where-sized, if-sized}
-use Rattle.matrix.specs.Matrix.{at}
-use Rattle.matrix.specs.Array.{cut, used, usedFlat, padRow}
-use Rattle.matrix.specs.Result.{asMatrix, asVector, asScalar}
-use Rattle.kalman_step.specs.Kalman.{Model, Estimate, Correction, predict, update, tracker, atStart}
-use Rattle.kalman_step.specs.Step.{flat, estimateIn, estimateFrom, wellSized, fitting}
+use Rattle.matrix.specs.Result.{asMatrix, asVector}
+use Rattle.filtering.specs.Filter.{Motion, Sensor, Estimate, estimate}
+use Rattle.filtering.specs.Linear.{predict, update, trackerMotion, trackerSensor, atStart}
+use Rattle.steps.specs.Step.{wellSized, fitting}
+use Rattle.steps.specs.Road.{asOne}
 use Rattle.kalman.specs.declared.KalmanFilter.{KalmanFilter}
 use Rattle.kalman.specs.declared.Stepped.{Stepped}
 use Rattle.kalman.specs.declared.Updated.{Updated}
 use Rattle.kalman.specs.declared.UpdatedOne.{UpdatedOne}
 
--- ---- what a record holds
-abbrev pub modelOf : KalmanFilter → Model
-modelOf f = record {
-  n = f .n;
-  m = f .m;
-  i = f .i;
-  a = usedFlat (f .n) (f .n) (f .a);
-  b = usedFlat (f .n) (f .i) (f .b);
-  h = usedFlat (f .m) (f .n) (f .h);
-  q = usedFlat (f .n) (f .n) (f .q);
-  r = usedFlat (f .m) (f .m) (f .r);
-}
+-- ---- what the numbers of a record hold: its matrices stand flat
+abbrev pub motionIn : ℕ → ℕ → List Float → List Float → List Float → Motion
+motionIn n i a b q = record { n = n; i = i; a = usedFlat n n a; b = usedFlat n i b; q = usedFlat n n q }
 
--- the model in arrays of rows with the sizes n, m and i beside them
-abbrev pub modelFrom : ℕ → ℕ → ℕ → List (List Float) → List (List Float) → List (List Float) → List (List Float) → List (List Float) → Model
-modelFrom n m i a b h q r = record { n = n; m = m; i = i; a = used n n a; b = used n i b; h = used m n h; q = used n n q; r = used m m r }
+abbrev pub sensorIn : ℕ → ℕ → List Float → List Float → Sensor Matrix
+sensorIn n m h r = record { n = n; m = m; h = usedFlat m n h; r = usedFlat m m r }
 
-abbrev pub estimateOf : KalmanFilter → Estimate
-estimateOf f = estimateIn (f .n) (f .x) (f .p)
+abbrev pub estimateIn : ℕ → List Float → List Float → Estimate
+estimateIn n x p = estimate (cut n x) (usedFlat n n p)
 
--- the record of a model and an estimate
-abbrev pub recordOf : Model → Estimate → KalmanFilter
-recordOf M e = record {
+-- a matrix in a record: its rows of four, +0 outside its sizes; an estimate in the numbers x and p
+abbrev pub flat : Matrix → List Float
+flat A = flatOfRows (pad A)
+
+abbrev pub flatsOf : Estimate → List Float × List Float
+flatsOf e = (padRow (e .state), flat (e .covariance))
+
+-- an outcome in the numbers x and p, where it leaves an estimate
+abbrev pub leftIn : {R : Type 0} → List Float → List Float → Outcome Estimate R → List Float × List Float
+leftIn x p o = kept flatsOf (x, p) (o .left)
+
+-- ---- a record of a model and an estimate, and what is given for one in arrays of rows
+abbrev pub recordOf : Motion → Sensor Matrix → Estimate → KalmanFilter
+recordOf M Y e = record {
   n = M.n;
-  m = M.m;
+  m = Y.m;
   i = M.i;
   a = flat M.a;
   b = flat M.b;
-  h = flat M.h;
+  h = flat Y.h;
   q = flat M.q;
-  r = flat M.r;
+  r = flat Y.r;
   x = padRow (e .state);
   p = flat (e .covariance);
 }
 
--- the record with the numbers x for its state and p for its covariance; its model stays as it stands
-abbrev pub keeping : KalmanFilter → List Float → List Float → KalmanFilter
-keeping f x p = record {
+abbrev pub motionFrom : ℕ → ℕ → List (List Float) → List (List Float) → List (List Float) → Motion
+motionFrom n i a b q = record { n = n; i = i; a = used n n a; b = used n i b; q = used n n q }
+
+abbrev pub sensorFrom : ℕ → ℕ → List (List Float) → List (List Float) → Sensor Matrix
+sensorFrom n m h r = record { n = n; m = m; h = used m n h; r = used m m r }
+
+abbrev pub estimateFrom : ℕ → List Float → List (List Float) → Estimate
+estimateFrom n x p = estimate (cut n x) (used n n p)
+
+-- the record with the numbers w for its state and its covariance; its model stays as it stands
+abbrev pub keeping : KalmanFilter → List Float × List Float → KalmanFilter
+keeping f w = record {
   n = f .n;
   m = f .m;
   i = f .i;
@@ -62,55 +75,56 @@ keeping f x p = record {
   h = f .h;
   q = f .q;
   r = f .r;
-  x = x;
-  p = p;
+  x = w .0;
+  p = w .1;
 }
 
--- the record with another estimate
 abbrev pub holding : KalmanFilter → Estimate → KalmanFilter
-holding f e = keeping f (padRow (e .state)) (flat (e .covariance))
-
--- ---- what each method answers, and the filter that it leaves; a refusal leaves the filter unchanged
+holding f e = keeping f (flatsOf e)
 
 -- no sizes, and +0 everywhere
 abbrev pub noFilter : KalmanFilter
-noFilter = recordOf (record { n = 0; m = 0; i = 0; a = []; b = []; h = []; q = []; r = [] }) (record { state = []; covariance = [] })
+noFilter = recordOf (record { n = 0; i = 0; a = []; b = []; q = [] }) (record { n = 0; m = 0; h = []; r = [] }) (estimate [] [])
 
-abbrev pub stepped : KalmanFilter → Answer KalmanFilter → Stepped
-stepped f (refused k) = record { answer = Refused k; filter = f }
-stepped f (answered g) = record { answer = Done; filter = g }
+-- ---- the outcome of each step: 1 where a size does not fit, else that of the filter
+abbrev pub predicting : KalmanFilter → List Float → ℕ → Outcome Estimate (Unit {0})
+predicting f u k =
+    if-fitting (fitting (f .n) (f .m) (f .i) (f .i) k) (predict (motionIn (f .n) (f .i) (f .a) (f .b) (f .q)) (cut (f .i) u) (estimateIn (f .n) (f .x) (f .p)))
 
-abbrev pub newOf : Model → Estimate → Stepped
-newOf M e = stepped noFilter (where-sized (wellSized M.n M.m M.i) (recordOf M e))
+abbrev pub updating : KalmanFilter → Vector → ℕ → Outcome Estimate Vector
+updating f z k = if-fitting (fitting (f .n) (f .m) (f .i) (f .m) k) (update (sensorIn (f .n) (f .m) (f .h) (f .r)) z (estimateIn (f .n) (f .x) (f .p)))
+
+-- ---- what each method hands back: its answer, and the filter that it leaves
+abbrev pub stepped : {R : Type 0} → KalmanFilter → Outcome Estimate R → Stepped
+stepped f o = let w = handed statusOf (holding f) f o in record { answer = w .0; filter = w .1 }
 
 abbrev pub predictOf : KalmanFilter → List Float → ℕ → Stepped
-predictOf f u k = stepped f (where-sized (fitting (f .n) (f .m) (f .i) (f .i) k) (holding f (predict (modelOf f) (estimateOf f) (cut (f .i) u))))
-
-abbrev pub told : KalmanFilter → Answer Correction → Updated
-told f (refused k) = record { answer = asVector (refused k); filter = f }
-told f (answered o) = record { answer = asVector (answered (o .innovation)); filter = holding f (o .estimate) }
+predictOf f u k = stepped f (predicting f u k)
 
 abbrev pub updateOf : KalmanFilter → List Float → ℕ → Updated
-updateOf f z k = told f (if-sized (fitting (f .n) (f .m) (f .i) (f .m) k) (update (modelOf f) (estimateOf f) (cut (f .m) z)))
+updateOf f z k = let w = handed asVector (holding f) f (updating f (cut (f .m) z) k) in record { answer = w .0; filter = w .1 }
 
 -- one reading: the innovation is a number
-abbrev pub toldOne : KalmanFilter → Answer Correction → UpdatedOne
-toldOne f (refused k) = record { answer = asScalar (refused k); filter = f }
-toldOne f (answered o) = record { answer = asScalar (answered (at (o .innovation) 0)); filter = holding f (o .estimate) }
-
 abbrev pub updateOneOf : KalmanFilter → Float → UpdatedOne
-updateOneOf f z = toldOne f (if-sized (fitting (f .n) (f .m) (f .i) (f .m) 1) (update (modelOf f) (estimateOf f) (z ∷ [])))
-
-abbrev pub stateOf : KalmanFilter → VectorResult
-stateOf f = asVector (where-sized (wellSized (f .n) (f .m) (f .i)) (estimateOf f .state))
-
-abbrev pub covarianceOf : KalmanFilter → MatrixResult
-covarianceOf f = asMatrix (where-sized (wellSized (f .n) (f .m) (f .i)) (estimateOf f .covariance))
+updateOneOf f z = let w = handed asOne (holding f) f (updating f (z ∷ []) 1) in record { answer = w .0; filter = w .1 }
 
 -- the k numbers of x, and the k × k part of p
 abbrev pub resetOf : KalmanFilter → List Float → List (List Float) → ℕ → Stepped
-resetOf f x p k = stepped f (where-sized (fitting (f .n) (f .m) (f .i) (f .n) k) (holding f (estimateFrom (f .n) x p)))
+resetOf f x p k = stepped f (into (where-sized (fitting (f .n) (f .m) (f .i) (f .n) k) (estimateFrom (f .n) x p)))
+
+-- beside a refusal there is no filter
+abbrev pub made : Answer KalmanFilter → Stepped
+made a = let w = handed statusOf (λ f. f) noFilter (into a) in record { answer = w .0; filter = w .1 }
+
+abbrev pub newOf : Motion → Sensor Matrix → Estimate → Stepped
+newOf M Y e = made (where-sized (wellSized M.n Y.m M.i) (recordOf M Y e))
+
+abbrev pub stateOf : KalmanFilter → VectorResult
+stateOf f = asVector (where-sized (wellSized (f .n) (f .m) (f .i)) (cut (f .n) (f .x)))
+
+abbrev pub covarianceOf : KalmanFilter → MatrixResult
+covarianceOf f = asMatrix (where-sized (wellSized (f .n) (f .m) (f .i)) (usedFlat (f .n) (f .n) (f .p)))
 
 -- the tracker at its start
 abbrev pub trackerOf : Float → Float → Float → KalmanFilter
-trackerOf t q r = recordOf (tracker t q r) atStart
+trackerOf t q r = recordOf (trackerMotion t q) (trackerSensor r) atStart

@@ -1,17 +1,33 @@
-// src/estimator/kalman.rs at f64: the linear Kalman filter as a record by value. Each step takes the record
-// and hands back its answer and the record that it leaves; a refusal leaves it unchanged.
+// src/estimator/kalman.rs at f64: the linear Kalman filter as a record by value, over the steps on lent rows. Each step takes
+// the record and hands back its answer and the record that it leaves; a refusal leaves it unchanged.
 ghost use mathlib.Core.Path.{_≡_};
-ghost use Rattle.kalman_step.specs.Step.{estimateFrom};
-ghost use Rattle.kalman.specs.Record.{modelFrom, noFilter, newOf, trackerOf, stateOf, covarianceOf, predictOf, resetOf, updateOf, updateOneOf};
+ghost use Rattle.algebra.specs.Array.{cut, usedFlat};
+ghost use Rattle.matrix.specs.Size.{count};
+ghost use Rattle.matrix.specs.Result.{asVector};
+ghost use Rattle.answer.specs.Outcome.{if-fitting, handed};
+ghost use Rattle.answer.specs.Told.{statusOf};
+ghost use Rattle.filtering.specs.Linear.{predict as predictStep, update as updateStep};
+ghost use Rattle.steps.specs.Step.{fitting};
+ghost use Rattle.steps.specs.Road.{matrixOf, estimateOf};
+ghost use Rattle.kalman.specs.Record.{flat, motionIn, sensorIn, estimateIn, flatsOf, leftIn};
+ghost use Rattle.kalman.specs.Record.{motionFrom, sensorFrom, estimateFrom, noFilter, newOf, trackerOf, stateOf, covarianceOf};
+ghost use Rattle.kalman.specs.Record.{predictOf, resetOf, updateOf, updateOneOf};
 use answer::Status;
 use matrix::MatrixResult;
 use matrix::ScalarResult;
+use matrix::Size;
 use matrix::VectorResult;
+use matrix::both;
 use matrix::kernel;
+use matrix::size_of;
+use steps::is_fitting;
+use steps::is_well_sized;
+use steps::road::Pair;
+use steps::road::Two;
 
-// Sizes: state n, measurement m, input i. Transition a (n by n), input matrix b (n by i), measurement matrix
-// h (m by n), process noise q (n by n), measurement noise r (m by m), state x, covariance p (n by n). A
-// matrix stands flat, four numbers a row; what stands outside its sizes is ignored.
+// Sizes: state n, measurement m, input i. Transition a (n by n), input matrix b (n by i), measurement matrix h (m by n), process
+// noise q (n by n), measurement noise r (m by m), state x, covariance p (n by n). A matrix stands flat, four numbers a row; what
+// stands outside its sizes is ignored.
 pub struct KalmanFilter {
     pub n: usize,
     pub m: usize,
@@ -43,6 +59,172 @@ pub struct UpdatedOne {
     pub filter: KalmanFilter,
 }
 
+// ---- one road: the numbers of the record, read where they stand
+
+// The two rows and columns of a flat matrix.
+fn two_in(f: &[f64; 16]) -> Two
+    ensures { λ t. ⌜ matrixOf t ≡ usedFlat 2 2 (now (f .entry)) ⌝ }
+{
+    Two {
+        a: f[0],
+        b: f[1],
+        c: f[4],
+        d: f[5],
+    }
+}
+
+// Laid flat, +0 outside.
+fn flat_two(t: Two) -> [f64; 16]
+    ensures { λ f. ⌜ f ≡ flat (matrixOf t) ⌝ }
+{
+    let z = [0.0; 4];
+    kernel::to_flat(&[[t.a, t.b, 0.0, 0.0], [t.c, t.d, 0.0, 0.0], z, z])
+}
+
+fn pair_in<'a>(x: &'a [f64; 4], p: &'a [f64; 16]) -> Pair
+    ensures { λ e. ⌜ estimateOf e ≡ estimateIn 2 (now (x .entry)) (now (p .entry)) ⌝ }
+{
+    let t = two_in(p);
+    Pair {
+        x0: x[0],
+        x1: x[1],
+        p: t,
+    }
+}
+
+fn predict_road<'a>(
+    a: &'a [f64; 16],
+    b: &'a [f64; 16],
+    q: &'a [f64; 16],
+    u: &'a [f64; 4],
+    x: &mut [f64; 4],
+    p: &mut [f64; 16],
+)
+    ensures { λ w. ⌜ (now (x .exit), now (p .exit)) ≡ leftIn (now (x .entry)) (now (p .entry)) (predictStep (motionIn 2 1 (now (a .entry)) (now (b .entry)) (now (q .entry))) (cut 1 (now (u .entry))) (estimateIn 2 (now (x .entry)) (now (p .entry)))) ⌝ }
+{
+    let e = steps::road::predict(two_in(a), b[0], b[4], two_in(q), u[0], pair_in(x, p));
+    *x = [e.x0, e.x1, 0.0, 0.0];
+    *p = flat_two(e.p);
+}
+
+fn update_road<'a>(
+    h: &'a [f64; 16],
+    r: &'a [f64; 16],
+    z: &'a [f64; 4],
+    x: &mut [f64; 4],
+    p: &mut [f64; 16],
+) -> VectorResult
+    ensures { λ v. ⌜ (v, (now (x .exit), now (p .exit))) ≡ handed asVector flatsOf (now (x .entry), now (p .entry)) (updateStep (sensorIn 2 1 (now (h .entry)) (now (r .entry))) (cut 1 (now (z .entry))) (estimateIn 2 (now (x .entry)) (now (p .entry)))) ⌝ }
+{
+    let v = steps::road::update(h[0], h[1], r[0], z[0], pair_in(x, p));
+    let answer = v.answer;
+    match answer {
+        ScalarResult::Value(y) => {
+            let e = v.pair;
+            *x = [e.x0, e.x1, 0.0, 0.0];
+            *p = flat_two(e.p);
+            matrix::vector_result(Status::Done, [y, 0.0, 0.0, 0.0])
+        }
+        ScalarResult::Refused(number) => matrix::vector_refused(number),
+    }
+}
+
+// ---- any sizes: the matrices of the record as rows
+
+fn predict_rows<'a>(
+    a: &'a [f64; 16],
+    b: &'a [f64; 16],
+    q: &'a [f64; 16],
+    u: &'a [f64; 4],
+    n: Size,
+    i: Size,
+    x: &mut [f64; 4],
+    p: &mut [f64; 16],
+)
+    ensures { λ w. ⌜ (now (x .exit), now (p .exit)) ≡ leftIn (now (x .entry)) (now (p .entry)) (predictStep (motionIn (count n) (count i) (now (a .entry)) (now (b .entry)) (now (q .entry))) (cut (count i) (now (u .entry))) (estimateIn (count n) (now (x .entry)) (now (p .entry)))) ⌝ }
+{
+    let am = kernel::from_flat(a);
+    let bm = kernel::from_flat(b);
+    let qm = kernel::from_flat(q);
+    let mut rows = kernel::from_flat(p);
+    steps::predict(&am, &bm, &qm, u, n, i, x, &mut rows);
+    *p = kernel::to_flat(&rows);
+}
+
+fn update_rows<'a>(
+    h: &'a [f64; 16],
+    r: &'a [f64; 16],
+    z: &'a [f64; 4],
+    n: Size,
+    m: Size,
+    x: &mut [f64; 4],
+    p: &mut [f64; 16],
+) -> VectorResult
+    ensures { λ v. ⌜ (v, (now (x .exit), now (p .exit))) ≡ handed asVector flatsOf (now (x .entry), now (p .entry)) (updateStep (sensorIn (count n) (count m) (now (h .entry)) (now (r .entry))) (cut (count m) (now (z .entry))) (estimateIn (count n) (now (x .entry)) (now (p .entry)))) ⌝ }
+{
+    let hm = kernel::from_flat(h);
+    let rm = kernel::from_flat(r);
+    let mut rows = kernel::from_flat(p);
+    let answer = steps::update(&hm, &rm, z, n, m, x, &mut rows);
+    let status = answer.status;
+    match status {
+        Status::Done => {
+            *p = kernel::to_flat(&rows);
+            answer
+        }
+        Status::Refused(number) => answer,
+    }
+}
+
+// ---- the steps on the numbers of a record: x and p are those that change
+
+fn predict_in<'a>(
+    a: &'a [f64; 16],
+    b: &'a [f64; 16],
+    q: &'a [f64; 16],
+    u: &'a [f64; 4],
+    n: usize,
+    m: usize,
+    i: usize,
+    k: usize,
+    x: &mut [f64; 4],
+    p: &mut [f64; 16],
+) -> Status
+    ensures { λ s. ⌜ (s, (now (x .exit), now (p .exit))) ≡ handed statusOf flatsOf (now (x .entry), now (p .entry)) (if-fitting (fitting n m i i k) (predictStep (motionIn n i (now (a .entry)) (now (b .entry)) (now (q .entry))) (cut i (now (u .entry))) (estimateIn n (now (x .entry)) (now (p .entry))))) ⌝ }
+{
+    if is_fitting(n, m, i, i, k) {
+        if both(n == 2, i == 1) {
+            predict_road(a, b, q, u, x, p);
+            return Status::Done;
+        }
+        predict_rows(a, b, q, u, size_of(n), size_of(i), x, p);
+        return Status::Done;
+    }
+    Status::Refused(1)
+}
+
+fn update_in<'a>(
+    h: &'a [f64; 16],
+    r: &'a [f64; 16],
+    z: &'a [f64; 4],
+    n: usize,
+    m: usize,
+    i: usize,
+    k: usize,
+    x: &mut [f64; 4],
+    p: &mut [f64; 16],
+) -> VectorResult
+    ensures { λ v. ⌜ (v, (now (x .exit), now (p .exit))) ≡ handed asVector flatsOf (now (x .entry), now (p .entry)) (if-fitting (fitting n m i m k) (updateStep (sensorIn n m (now (h .entry)) (now (r .entry))) (cut m (now (z .entry))) (estimateIn n (now (x .entry)) (now (p .entry))))) ⌝ }
+{
+    if is_fitting(n, m, i, m, k) {
+        if both(n == 2, m == 1) {
+            return update_road(h, r, z, x, p);
+        }
+        return update_rows(h, r, z, size_of(n), size_of(m), x, p);
+    }
+    matrix::vector_refused(1)
+}
+
 // What stands beside a refusal: no sizes, and +0 everywhere.
 fn no_filter() -> KalmanFilter
     ensures { λ f. ⌜ f ≡ noFilter ⌝ }
@@ -71,21 +253,9 @@ impl KalmanFilter {
         let n = self.n;
         let m = self.m;
         let i = self.i;
-        let next = kalman_step::predicted(
-            &self.a,
-            &self.b,
-            &self.q,
-            &self.x,
-            &self.p,
-            &u,
-            n,
-            m,
-            i,
-            k,
-        );
-        let x = next.x;
-        let p = next.p;
-        let answer = next.answer;
+        let mut x = self.x;
+        let mut p = self.p;
+        let answer = predict_in(&self.a, &self.b, &self.q, &u, n, m, i, k, &mut x, &mut p);
         let mut filter = self;
         filter.x = x;
         filter.p = p;
@@ -101,10 +271,9 @@ impl KalmanFilter {
         let n = self.n;
         let m = self.m;
         let i = self.i;
-        let next = kalman_step::measured(&self.h, &self.p, &self.r, &self.x, &z, n, m, i, k);
-        let x = next.x;
-        let p = next.p;
-        let answer = next.answer;
+        let mut x = self.x;
+        let mut p = self.p;
+        let answer = update_in(&self.h, &self.r, &z, n, m, i, k, &mut x, &mut p);
         let mut filter = self;
         filter.x = x;
         filter.p = p;
@@ -136,9 +305,9 @@ impl KalmanFilter {
     pub fn state(self) -> VectorResult
         ensures { λ r. ⌜ r ≡ stateOf self ⌝ }
     {
-        if kalman_step::is_well_sized(self.n, self.m, self.i) {
+        if is_well_sized(self.n, self.m, self.i) {
             let x = self.x;
-            matrix::vector_result(Status::Done, matrix::kept(x, self.n))
+            matrix::vector_result(Status::Done, kernel::leading(x, size_of(self.n)))
         } else {
             matrix::vector_refused(1)
         }
@@ -149,9 +318,10 @@ impl KalmanFilter {
         ensures { λ r. ⌜ r ≡ covarianceOf self ⌝ }
     {
         let n = self.n;
-        if kalman_step::is_well_sized(n, self.m, self.i) {
+        if is_well_sized(n, self.m, self.i) {
+            let s = size_of(n);
             let p = kernel::from_flat(&self.p);
-            matrix::matrix_result(Status::Done, kernel::used_part(&p, n, n))
+            matrix::matrix_result(Status::Done, kernel::used_part(&p, s, s))
         } else {
             matrix::matrix_refused(1)
         }
@@ -162,9 +332,10 @@ impl KalmanFilter {
         ensures { λ r. ⌜ r ≡ resetOf self x p k ⌝ }
     {
         let n = self.n;
-        if kalman_step::is_fitting(n, self.m, self.i, n, k) {
-            let flat = kernel::flat_part(&p, n, n);
-            let state = matrix::kept(x, n);
+        if is_fitting(n, self.m, self.i, n, k) {
+            let s = size_of(n);
+            let flat = kernel::flat_part(&p, s, s);
+            let state = kernel::leading(x, s);
             let mut restarted = self;
             restarted.x = state;
             restarted.p = flat;
@@ -193,24 +364,25 @@ impl KalmanFilter {
         x0: [f64; 4],
         p0: [[f64; 4]; 4],
     ) -> Stepped
-        ensures { λ s. ⌜ s ≡ newOf (modelFrom n m i a b h q r) (estimateFrom n x0 p0) ⌝ }
+        ensures { λ s. ⌜ s ≡ newOf (motionFrom n i a b q) (sensorFrom n m h r) (estimateFrom n x0 p0) ⌝ }
     {
-        if kalman_step::is_well_sized(n, m, i) {
-            let filter = KalmanFilter {
-                n,
-                m,
-                i,
-                a: kernel::flat_part(&a, n, n),
-                b: kernel::flat_part(&b, n, i),
-                h: kernel::flat_part(&h, m, n),
-                q: kernel::flat_part(&q, n, n),
-                r: kernel::flat_part(&r, m, m),
-                x: matrix::kept(x0, n),
-                p: kernel::flat_part(&p0, n, n),
-            };
+        if is_well_sized(n, m, i) {
+            let sn = size_of(n);
+            let sm = size_of(m);
             Stepped {
                 answer: Status::Done,
-                filter,
+                filter: KalmanFilter {
+                    n,
+                    m,
+                    i,
+                    a: kernel::flat_part(&a, sn, sn),
+                    b: kernel::flat_part(&b, sn, size_of(i)),
+                    h: kernel::flat_part(&h, sm, sn),
+                    q: kernel::flat_part(&q, sn, sn),
+                    r: kernel::flat_part(&r, sm, sm),
+                    x: kernel::leading(x0, sn),
+                    p: kernel::flat_part(&p0, sn, sn),
+                },
             }
         } else {
             Stepped {
@@ -224,32 +396,20 @@ impl KalmanFilter {
     pub fn position_velocity(dt: f64, process_noise: f64, measurement_noise: f64) -> KalmanFilter
         ensures { λ f. ⌜ f ≡ trackerOf dt «process_noise» «measurement_noise» ⌝ }
     {
-        let dt2 = dt * dt;
-        let dt3 = dt2 * dt;
-        let dt4 = dt3 * dt;
-        let q01 = process_noise * dt3 * 0.5;
+        let f = steps::road::position_velocity(dt, process_noise, measurement_noise);
         let z = [0.0; 4];
-        let a0 = [1.0, dt, 0.0, 0.0];
-        let a1 = [0.0, 1.0, 0.0, 0.0];
-        let b0 = [dt * dt * 0.5, 0.0, 0.0, 0.0];
-        let b1 = [dt, 0.0, 0.0, 0.0];
-        let h0 = [1.0, 0.0, 0.0, 0.0];
-        let q0 = [process_noise * dt4 * 0.25, q01, 0.0, 0.0];
-        let q1 = [q01, process_noise * dt2, 0.0, 0.0];
-        let r0 = [measurement_noise * measurement_noise, 0.0, 0.0, 0.0];
-        let p0 = [1.0 * 1000.0, 0.0 * 1000.0, 0.0, 0.0];
-        let p1 = [0.0 * 1000.0, 1.0 * 1000.0, 0.0, 0.0];
+        let e = f.pair;
         KalmanFilter {
             n: 2,
             m: 1,
             i: 1,
-            a: kernel::to_flat(&[a0, a1, z, z]),
-            b: kernel::to_flat(&[b0, b1, z, z]),
-            h: kernel::to_flat(&[h0, z, z, z]),
-            q: kernel::to_flat(&[q0, q1, z, z]),
-            r: kernel::to_flat(&[r0, z, z, z]),
-            x: [0.0; 4],
-            p: kernel::to_flat(&[p0, p1, z, z]),
+            a: flat_two(f.a),
+            b: kernel::to_flat(&[[f.b0, 0.0, 0.0, 0.0], [f.b1, 0.0, 0.0, 0.0], z, z]),
+            h: kernel::to_flat(&[[f.h0, f.h1, 0.0, 0.0], z, z, z]),
+            q: flat_two(f.q),
+            r: kernel::to_flat(&[[f.r, 0.0, 0.0, 0.0], z, z, z]),
+            x: [e.x0, e.x1, 0.0, 0.0],
+            p: flat_two(e.p),
         }
     }
 }

@@ -1,7 +1,6 @@
 -- `no_filter` meets its contract.
 use mathlib.Core.Path.{refl}
-use Rattle.matrix.specs.Array.{pad}
-use Rattle.matrix.specs.Kernel.{flatOfRows}
+use Rattle.algebra.specs.Array.{pad, flatOfRows}
 use Rattle.kalman.proofs.no_filter.Statement.{statement}
 use Rattle.kalman.proofs.no_filter.Tie as tie
 

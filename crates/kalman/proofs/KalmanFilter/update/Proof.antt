@@ -1,25 +1,16 @@
--- `KalmanFilter::update` meets its contract.
-use Rattle.answer.specs.Answer.{if-sized}
-use Rattle.matrix.specs.Array.{cut}
-use Rattle.kalman_step.specs.Kalman.{update, correction}
-use Rattle.kalman_step.specs.Step.{fitting}
-use Rattle.kalman.specs.Record.{modelOf, estimateOf}
-use Rattle.kalman.proofs.Records.{told-is}
-use borrow.Author.Needs.{needs}
+-- `update` meets its contract: the record around the numbers of the step.
+use Rattle.algebra.specs.Array.{cut}
+use Rattle.matrix.specs.Result.{asVector}
+use Rattle.kalman.specs.Record.{updating}
+use Rattle.kalman.proofs.Records.{around}
 use Rattle.kalman.proofs.KalmanFilter.update.Statement.{statement}
 use Rattle.kalman.proofs.KalmanFilter.update.Tie as tie
 
 returns : tie.Need-returns
-unfolding update correction
 returns c =
-    let s = c .before .before .before in
-    let a = s .before .before .before .before .before .before .before .args in
-    let f = a .t1 in
-    told-is f (if-sized (fitting (f .n) (f .m) (f .i) (f .m) (a .k)) (update (modelOf f) (estimateOf f) (cut (f .m) (a .t2)))) (s .measured .ensures)
+    let a = c .before .before .before .before .before .before .before .before .before .args in
+    let e = around asVector (a .t1) (updating (a .t1) (cut (a .t1 .m) (a .t2)) (a .k)) (c .update-in .ensures) in
+    λ i. record { answer = e i .0; filter = e i .1 }
 
 pub update-spec : {M : Type 1} → statement M
-update-spec =
-    tie.close
-    (tie.spec
-    (λ c κs. search needs)
-    returns)
+update-spec = tie.close (tie.spec (λ c κs. tt) returns)

@@ -1,5 +1,5 @@
--- `KalmanFilter::update_one` meets its contract.
-use Rattle.kalman.proofs.One.{one-done, one-refused}
+-- `update_one` meets its contract: what `update` tells, read as a number.
+use Rattle.kalman.proofs.One.{one-answered, one-refused}
 use borrow.Author.Needs.{needs}
 use Rattle.kalman.proofs.KalmanFilter.update_one.Statement.{statement}
 use Rattle.kalman.proofs.KalmanFilter.update_one.Tie as tie
@@ -7,12 +7,12 @@ use Rattle.kalman.proofs.KalmanFilter.update_one.Tie as tie
 returns : tie.Need-returns
 returns c =
     let u = c .before .before .before .before .before in
-    one-done (u .before .args .self) (u .before .args .z) (u .update .result) (u .update .ensures) (c .enum-told .given .1)
+    one-answered (u .before .args .self) (u .before .args .z) (u .update .ensures) (c .enum-told .given .1)
 
 returns-2 : tie.Need-returns-2
 returns-2 c =
     let u = c .before .before .before .before .before .before in
-    one-refused (u .before .args .self) (u .before .args .z) (u .update .result) (u .update .ensures) (c .before .status .given .1)
+    one-refused (u .before .args .self) (u .before .args .z) (u .update .ensures) (c .before .status .given .1)
 
 pub update-one-spec : {M : Type 1} → statement M
-update-one-spec = tie.close (tie.spec (λ c κs. search needs) (λ c. search needs) (λ c. search needs) (λ c. search needs) returns returns-2)
+update-one-spec = tie.close (tie.spec (λ c κs. tt) (λ c. search needs) (λ c. search needs) (λ c. search needs) returns returns-2)

@@ -1,0 +1,69 @@
+-- The ways out of an update: refused, and nothing changes; or answered, and an estimate is left. Assumes nothing.
+use mathlib.Core.Path.{_≡_, sym, ap, _∙_}
+use mathlib.Core.List.{List, [], _∷_}
+use Prim.Native.Nat.{ℕ}
+use lib.ListN.{length}
+use lib.Ieee.{Float, nan}
+use Rattle.answer.specs.declared.Status.{Status}
+use Rattle.answer.specs.declared.Status.the-variants.{Done, Refused}
+use Rattle.answer.specs.Answer.{Answer, refused, answered}
+use Rattle.answer.specs.Outcome.{Outcome, unchanged, done, _else-leave_then_, handed}
+use Rattle.answer.specs.Table.{table}
+use Rattle.answer.proofs.Tables.{table-getD}
+use Rattle.answer.proofs.Answers.{differ}
+use Rattle.algebra.specs.Matrix.{Vector, Matrix, at, matvec}
+use Rattle.algebra.specs.Array.{padRow, flatOfRows}
+use Rattle.algebra.specs.Inverse.{inv}
+use Rattle.algebra.proofs.Vectors.{length-vecSub}
+use Rattle.matrix.specs.declared.VectorResult.{VectorResult}
+use Rattle.matrix.specs.declared.ScalarResult.{ScalarResult}
+use Rattle.matrix.specs.declared.ScalarResult.the-variants as Scalar
+use Rattle.matrix.specs.Result.{vectorResult, asVector}
+use Rattle.matrix.proofs.Results.{done-not-refused, answered-value, refused-number}
+use Rattle.filtering.specs.Filter.{Sensor, Estimate, propagated, innovation}
+use Rattle.filtering.specs.Linear.{correction, update}
+use Rattle.filtering.proofs.Shapes.{Way, stopped, went}
+use Rattle.steps.specs.Step.{Rows, updatedIn}
+use Rattle.steps.specs.Road.{asOne, updatedOf}
+use Rattle.kalman.specs.Record.{flatsOf, flat}
+
+-- one number is all of a vector
+one-number : (y : Vector) → length y ≡ 1 → at y 0 ∷ [] ≡ y
+one-number y l = ap (λ (k : ℕ). table k (at y)) (sym l) ∙ table-getD y nan
+
+-- ---- what is left and told in the numbers x and p of a record
+module _ (x p : List Float) where
+  -- by an update of rows, which tells v: by its status
+  pub rows-answered : (a : Rows) {n m : ℕ} {o : Outcome Estimate Vector} {v : VectorResult} {x′ p′ : List Float} {a′ : Rows} → Way n m o → (v, (x′, a′)) ≡ updatedIn x a o
+      → v .status ≡ Done → p′ ≡ flatOfRows a′ → (v, (x′, p′)) ≡ handed asVector flatsOf (x, p) o
+  rows-answered a (stopped k) g s f = absurd (done-not-refused (sym s ∙ λ t. g t .0 .status))
+  rows-answered a (went y e l w) g s f = λ t. (g t .0, (g t .1 .0, (f ∙ λ t. flatOfRows (g t .1 .1)) t))
+
+  pub rows-refused : (a : Rows) {n m k : ℕ} {o : Outcome Estimate Vector} {v : VectorResult} {x′ : List Float} {a′ : Rows} → Way n m o → (v, (x′, a′)) ≡ updatedIn x a o
+      → v .status ≡ Refused k → (v, (x′, p)) ≡ handed asVector flatsOf (x, p) o
+  rows-refused a (stopped k) g s = λ t. (g t .0, (g t .1 .0, p))
+  rows-refused a (went y e l w) g s = absurd (done-not-refused ((λ t. sym g t .0 .status) ∙ s))
+
+  -- by an update of one road, from the estimate e to g, which tells s
+  pub road-answered : (e : Estimate) {n : ℕ} {o : Outcome Estimate Vector} {g : Estimate} {s : ScalarResult} {y : Float} {v : VectorResult} {p′ : List Float} → Way n 1 o → (s, g) ≡ updatedOf e o
+      → s ≡ Scalar.Value y → v ≡ vectorResult Done (padRow (y ∷ [])) → p′ ≡ flat (g .covariance) → (v, (padRow (g .state), p′)) ≡ handed asVector flatsOf (x, p) o
+  road-answered e (stopped k) q a f r = absurd (differ (answered-value (refused k) (λ t. q t .0) a))
+  road-answered e {y = w} (went y e′ l s) q a f r =
+      let b : w ∷ [] ≡ y = cc (one-number y l, ap (λ (d : ScalarResult × Estimate). d .0) q) in
+      λ t. ((f ∙ ap (λ (u : Vector). vectorResult Done (padRow u)) b) t, (padRow (q t .1 .state), (r ∙ λ t. flat (q t .1 .covariance)) t))
+
+  pub road-refused : (e : Estimate) {n : ℕ} {o : Outcome Estimate Vector} {g : Estimate} {s : ScalarResult} {k : ℕ} {v : VectorResult} → Way n 1 o → (s, g) ≡ updatedOf e o
+      → s ≡ Scalar.Refused k → v ≡ asVector (refused k) → (v, (x, p)) ≡ handed asVector flatsOf (x, p) o
+  road-refused e {k = k} (stopped j) q a f =
+      let b : k ≡ j = cc (ap (λ (d : ScalarResult × Estimate). d .0) q) in
+      λ t. ((f ∙ ap (λ (k : ℕ). asVector (refused k)) b) t, (x, p))
+  road-refused e (went y e′ l s) q a f = absurd (differ (sym (refused-number (answered (at y 0)) (λ t. q t .0) a)))
+
+-- ---- what an update tells as the vector v, as a number: by its status
+pub one-value : {n : ℕ} {o : Outcome Estimate Vector} {v : VectorResult} → Way n 1 o → v ≡ asVector (o .told) → v .status ≡ Done → Scalar.Value (at (v .cells) 0) ≡ asOne (o .told)
+one-value (stopped k) q s = absurd (done-not-refused (sym s ∙ λ t. q t .status))
+one-value (went y e l w) q s = ap Scalar.Value ((λ t. at (q t .cells) 0) ∙ ap (λ (u : Vector). at (padRow u) 0) (sym (one-number y l)))
+
+pub one-no-value : {n : ℕ} {o : Outcome Estimate Vector} {v : VectorResult} {k : ℕ} → Way n 1 o → v ≡ asVector (o .told) → v .status ≡ Refused k → Scalar.Refused k ≡ asOne (o .told)
+one-no-value {k = k} (stopped j) q s = let e : _≡_ {A = Status} (Refused k) (Refused j) = sym s ∙ (λ t. q t .status) in cc
+one-no-value (went y e l w) q s = absurd (done-not-refused ((λ t. sym q t .status) ∙ s))

@@ -1,2 +1,0 @@
-pub mod Kalman
-pub mod Step

@@ -1,0 +1,4 @@
+pub mod Sizes
+pub mod Vectors
+pub mod Ways
+pub mod Roads

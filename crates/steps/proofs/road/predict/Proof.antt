@@ -1,0 +1,14 @@
+-- `road::predict` meets its contract: the definition at two states and one input, written out.
+use mathlib.Core.Path.{refl}
+use Rattle.algebra.specs.Matrix.{sumFrom, mul, matvec, transpose, add, vecAdd}
+use Rattle.filtering.specs.Filter.{predictedState, propagated}
+use Rattle.filtering.specs.Linear.{predict}
+use Rattle.steps.proofs.road.predict.Statement.{statement}
+use Rattle.steps.proofs.road.predict.Tie as tie
+
+returns : tie.Need-returns
+unfolding sumFrom mul matvec transpose add vecAdd predictedState propagated predict
+returns c = refl
+
+pub predict-spec : {M : Type 1} → statement M
+predict-spec = tie.close (tie.spec returns)
