@@ -1,0 +1,95 @@
+-- What a reading or a writing hands over: for the functions' proofs its two ways out, and for a caller what it has where there is room. Assumes nothing.
+use mathlib.Core.Path.{_≡_, sym, ap, ap₂, _∙_}
+use mathlib.Core.List.{List, [], _++_}
+use mathlib.Core.Bool.{Bool, true, false}
+use Prim.Native.Nat.{ℕ, _+_, _*_, _≤_, _<_}
+use native.Mathlib.Omega.{arith}
+use lib.ListN.{length, length-append}
+use lib.Ieee.{Float}
+use Rattle.answer.proofs.Choice.{cond-true, cond-false}
+use Rattle.answer.proofs.Tables.{length-table}
+use Rattle.algebra.specs.Array.{cut, used, padRow, pad}
+use Rattle.algebra.proofs.Matrices.{shape-mat}
+use Rattle.algebra.proofs.Arrays.{length-cut, shape-used, cut-padRow, used-pad}
+use Rattle.matrix.specs.declared.Size.{Size}
+use Rattle.matrix.specs.Size.{count}
+use Rattle.matrix.proofs.Sizes.{Bounds, bounds}
+use Rattle.layout.specs.Layout.{vectorAt, matrixAt, joined, placed, room, vectorIn, matrixIn, putAt, Parts, partRows, partColumns, total, offset, partAt}
+use Rattle.layout.proofs.Places.{room-true}
+use Rattle.layout.proofs.Rows.{length-rows}
+use Rattle.layout.proofs.Parts.{part-within}
+use native.Mathlib.Nat.{mul-le-mul}
+
+pub length-matrix : (r c : ℕ) (m : List (List Float)) → length (joined (used r c m)) ≡ r * c
+length-matrix r c m = length-rows r c (used r c m) (shape-used r c m)
+
+pub length-pair : (n : ℕ) (x : List Float) (p : List (List Float)) → length (cut n x ++ joined (used n n p)) ≡ n + n * n
+length-pair n x p = length-append (cut n x) (joined (used n n p)) ∙ ap₂ (λ (i j : ℕ). i + j) (length-cut n x) (length-matrix n n p)
+
+-- ---- sizes as the code has them, numbers
+pub bounds-as : (s : Size) {n : ℕ} → n ≡ count s → Bounds n
+bounds-as s e = let B = bounds s in record { least = omega (arith, e, B); most = omega (arith, e, B) }
+
+pub few : (r c : Size) {l j : ℕ} → l ≡ count r → j ≡ count c → l * j ≤ 16
+few r c d e = mul-le-mul (bounds-as r d .most) (bounds-as c e .most)
+
+-- ---- the two ways out, where t is the test and the sizes are l and j as the code has them
+module _ (k : ℕ) (b : List Float) {t : Bool} where
+  pub vector-found : {j n : ℕ} {v : List Float} → j ≡ n → t ≡ room k j (length b) → t ≡ true → v ≡ padRow (vectorAt j b k) → v ≡ padRow (vectorIn n b k)
+  vector-found {j} d e q p = p ∙ ap padRow (sym (cond-true (vectorAt j b k) [] (sym e ∙ q))) ∙ ap (λ (n : ℕ). padRow (vectorIn n b k)) d
+
+  pub vector-none : {j n : ℕ} → j ≡ n → t ≡ room k j (length b) → t ≡ false → padRow [] ≡ padRow (vectorIn n b k)
+  vector-none {j} d e q = ap padRow (sym (cond-false (vectorAt j b k) [] (sym e ∙ q))) ∙ ap (λ (n : ℕ). padRow (vectorIn n b k)) d
+
+  pub matrix-found : {l j r c : ℕ} {m : List (List Float)} → l ≡ r → j ≡ c → t ≡ room k (l * j) (length b) → t ≡ true → m ≡ pad (matrixAt l j b k)
+      → m ≡ pad (matrixIn r c b k)
+  matrix-found {l} {j} d f e q p = p ∙ ap pad (sym (cond-true (matrixAt l j b k) [] (sym e ∙ q))) ∙ ap₂ (λ (r c : ℕ). pad (matrixIn r c b k)) d f
+
+  pub matrix-none : {l j r c : ℕ} → l ≡ r → j ≡ c → t ≡ room k (l * j) (length b) → t ≡ false → pad [] ≡ pad (matrixIn r c b k)
+  matrix-none {l} {j} d f e q = ap pad (sym (cond-false (matrixAt l j b k) [] (sym e ∙ q))) ∙ ap₂ (λ (r c : ℕ). pad (matrixIn r c b k)) d f
+
+  pub put-there : (l : List Float) {n : ℕ} {b₁ : List Float} → length l ≡ n → t ≡ room k n (length b) → t ≡ true → b₁ ≡ placed k l b → b₁ ≡ putAt k l b
+  put-there l d e q p = p ∙ sym (cond-true (placed k l b) b (ap (λ (n : ℕ). room k n (length b)) d ∙ sym e ∙ q))
+
+  pub put-nowhere : (l : List Float) {n : ℕ} → length l ≡ n → t ≡ room k n (length b) → t ≡ false → b ≡ putAt k l b
+  put-nowhere l d e q = sym (cond-false (placed k l b) b (ap (λ (n : ℕ). room k n (length b)) d ∙ sym e ∙ q))
+
+-- ---- what a caller has where there is room: the sizes of the call, as l and j, are its own, r and c or n
+module _ (k : ℕ) (b : List Float) where
+  pub vector-read : {j n : ℕ} {v : List Float} → j ≡ n → k + n ≤ length b → v ≡ padRow (vectorIn j b k) → v ≡ padRow (vectorAt n b k)
+  vector-read {j} {n} d h p =
+      p ∙ ap (λ (n : ℕ). padRow (vectorIn n b k)) d ∙ ap padRow (cond-true (vectorAt n b k) [] (room-true k n (length b) h))
+
+  pub matrix-read : {l j r c : ℕ} {m : List (List Float)} → l ≡ r → j ≡ c → k + r * c ≤ length b → m ≡ pad (matrixIn l j b k) → m ≡ pad (matrixAt r c b k)
+  matrix-read {l} {j} {r} {c} d e h p =
+      p ∙ ap₂ (λ (r c : ℕ). pad (matrixIn r c b k)) d e ∙ ap pad (cond-true (matrixAt r c b k) [] (room-true k (r * c) (length b) h))
+
+  -- the same, as the used part of the array that was read
+  pub vector-used : {j n : ℕ} {v : List Float} → j ≡ n → k + n ≤ length b → v ≡ padRow (vectorIn j b k) → cut j v ≡ vectorAt n b k
+  vector-used {j} {n} {v} d h p =
+      ap (λ (n : ℕ). cut n v) d ∙ ap (cut n) (vector-read d h p) ∙ cut-padRow n (vectorAt n b k) (length-table n _)
+
+  pub matrix-used : {l j r c : ℕ} {m : List (List Float)} → l ≡ r → j ≡ c → k + r * c ≤ length b → m ≡ pad (matrixIn l j b k) → used l j m ≡ matrixAt r c b k
+  matrix-used {l} {j} {r} {c} {m} d e h p =
+      ap₂ (λ (r c : ℕ). used r c m) d e ∙ ap (used r c) (matrix-read d e h p) ∙ used-pad r c (matrixAt r c b k) (shape-mat r c _)
+
+  pub slice-put : (l : List Float) {b₁ : List Float} → k + length l ≤ length b → b₁ ≡ putAt k l b → b₁ ≡ placed k l b
+  slice-put l h p = p ∙ cond-true (placed k l b) b (room-true k (length l) (length b) h)
+
+  pub vector-put : {j n : ℕ} (v : List Float) {b₁ : List Float} → j ≡ n → k + n ≤ length b → b₁ ≡ putAt k (cut j v) b → b₁ ≡ placed k (cut n v) b
+  vector-put {j} {n} v d h p = slice-put (cut n v) (omega (arith, length-cut n v)) (p ∙ ap (λ (n : ℕ). putAt k (cut n v) b) d)
+
+  pub matrix-put : {l j r c : ℕ} (m : List (List Float)) {b₁ : List Float} → l ≡ r → j ≡ c → k + r * c ≤ length b → b₁ ≡ putAt k (joined (used l j m)) b
+      → b₁ ≡ placed k (joined (used r c m)) b
+  matrix-put {l} {j} {r} {c} m d e h p =
+      slice-put (joined (used r c m)) (omega (arith, length-matrix r c m)) (p ∙ ap₂ (λ (r c : ℕ). putAt k (joined (used r c m)) b) d e)
+
+  pub pair-put : {j n : ℕ} (x : List Float) (p : List (List Float)) {b₁ : List Float} → j ≡ n → k + (n + n * n) ≤ length b
+      → b₁ ≡ putAt k (cut j x ++ joined (used j j p)) b → b₁ ≡ placed k (cut n x ++ joined (used n n p)) b
+  pair-put {j} {n} x p d h q =
+      slice-put (cut n x ++ joined (used n n p)) (omega (arith, length-pair n x p)) (q ∙ ap (λ (n : ℕ). putAt k (cut n x ++ joined (used n n p)) b) d)
+
+-- part k of a layout L that lies within b: q is where the code reads
+pub part-read : (L : Parts) (b : List Float) (k : ℕ) {l j q : ℕ} {m : List (List Float)} → total L ≤ length b → k < length L
+    → l ≡ partRows L k → j ≡ partColumns L k → q ≡ offset L k → m ≡ pad (matrixIn l j b q) → used l j m ≡ partAt L b k
+part-read L b k h g d e i p = matrix-used _ b d e (omega (arith, part-within L k g, i)) p ∙ ap (matrixAt (partRows L k) (partColumns L k) b) i

@@ -1,0 +1,5 @@
+pub mod Places
+pub mod Rows
+pub mod Loops
+pub mod Parts
+pub mod Calls
