@@ -1,47 +1,54 @@
 -- A call of `smooth` whose sizes are right answers as smoothing its duty does, so demand 3 holds of it. Assumes nothing.
 use mathlib.Core.Path.{_≡_, refl, sym, ap, _∙_}
 use mathlib.Core.Bool.{Bool}
-use mathlib.Core.List.{List, []}
-use Prim.Native.Nat.{ℕ, _+_, _-_, _*_}
+use mathlib.Core.List.{List, map}
+use Prim.Native.Nat.{ℕ, _+_, _*_, _≤_}
+use native.Mathlib.Nat.{mul-le-mul-right}
 use native.Mathlib.Omega.{arith}
-use lib.ListN.{length, replicate}
+use lib.ListN.{length, replicate, length-replicate}
 use lib.Ieee.{Float}
 use Rattle.scalar.specs.Number.{+0}
 use Rattle.answer.specs.Answer.{Answer, refused, answered, mapped, if-sized}
-use Rattle.matrix.specs.Array.{used}
 use Rattle.answer.proofs.Tables.{table-ext}
-use Rattle.kalman_step.specs.Kalman.{Estimate}
+use Rattle.algebra.specs.Array.{used}
+use Rattle.filtering.specs.Filter.{Estimate}
+use Rattle.layout.specs.Layout.{joined, placed, pairLength}
 use Rattle.smoothing.specs.Smoother.{smooth}
 use Rattle.smoothing.specs.Demand3.{Demand3}
-use Rattle.rts_pass.specs.Buffer.{pairLength, pairAt, outputOf, dutyOf}
-use Rattle.rts_pass.specs.Pass.{writtenIn}
-use Rattle.rts_pass.specs.Call.{Call, duty, pairsOf, answerOf, run}
 use Rattle.smoothing.proofs.Backward.{Each}
-use Rattle.rts_pass.proofs.Pairs.{Paired}
-use Rattle.rts_pass.proofs.Readings.{pairs-back}
-use Rattle.rts_pass.proofs.Outputs.{smoothed-pairs, smoothed-count}
 use Rattle.smoothing.proofs.Demand3.{demand3-by}
+use Rattle.rts_pass.specs.Buffer.{pairAt, dutyOf, pairNumbers, outputOf}
+use Rattle.rts_pass.specs.Pass.{smoothLeft}
+use Rattle.rts_pass.specs.Call.{Call, duty, pairsOf, answerOf, run}
+use Rattle.rts_pass.proofs.Sizes.{smoothable-of}
+use Rattle.rts_pass.proofs.Pairs.{Paired}
+use Rattle.rts_pass.proofs.Outputs.{pairs-back, in-front-of, smoothed-pairs, smoothed-count}
 
 -- the pairs that were written are read back
-written-back : (n T : ℕ) (r : List Estimate) → Each (Paired n) r → pairsOf n (length r) (outputOf n T r) ≡ r
+written-back : (n T : ℕ) (r : List Estimate) → Each (Paired n) r → length r ≤ T → pairsOf n (length r) (outputOf n T r) ≡ r
 unfolding outputOf
-written-back n T r h =
-    let z = replicate ((T - length r) * pairLength n) +0 in
-    table-ext (length r) _ _ (λ k g. let e : k * pairLength n ≡ 0 + k * pairLength n = omega arith in ap (pairAt n (outputOf n T r)) e)
-    ∙ pairs-back n r h [] z
+written-back n T r h f =
+    let w = pairLength n in
+    let zeros = replicate (T * w) +0 in
+    table-ext (length r) _ (λ k. pairAt n (placed 0 (joined (map pairNumbers r)) zeros) (0 + k * w))
+    (λ k g. let e : k * w ≡ 0 + k * w = omega arith in λ i. pairAt n (sym (in-front-of (joined (map pairNumbers r)) (T * w)) i) (e i))
+    ∙ pairs-back n r h 0 zeros (omega (arith, length-replicate (T * w) +0, mul-le-mul-right w f))
 
 module _ (c : Call) where
   told : Answer (List Float) → Answer (List Estimate)
-  told a = let x = writtenIn (c .output) a in answerOf (c .n) (c .count) (x .told) (x .content)
+  told a = let x = smoothLeft (λ l. l) (c .output) a in answerOf (c .n) (c .count) (x .0) (x .1)
 
   answers : (a : Answer (List Estimate)) → smooth (duty c) ≡ a → told (mapped (outputOf (c .n) (c .room)) a) ≡ a
   unfolding told smooth dutyOf
   answers (refused k) p = refl
   answers (answered r) p =
-      ap (λ (k : ℕ). answered (pairsOf (c .n) k (outputOf (c .n) (c .room) r))) (sym (smoothed-count (c .n) (used (c .n) (c .n) (c .transition)) (c .slots) (c .count) r p))
-      ∙ ap answered (written-back (c .n) (c .room) r (smoothed-pairs (c .n) (used (c .n) (c .n) (c .transition)) (c .slots) (c .count) r p))
+      let F = used (c .n) (c .n) (c .transition) in
+      let many = smoothed-count (c .n) F (c .slots) (c .count) r p in
+      let within = smoothable-of (length (c .slots)) (length (c .output)) (c .n) (c .room) (c .count) (c .right) .buffer .sizes .within in
+      ap (λ (k : ℕ). answered (pairsOf (c .n) k (outputOf (c .n) (c .room) r))) (sym many)
+      ∙ ap answered (written-back (c .n) (c .room) r (smoothed-pairs (c .n) F (c .slots) (c .count) r p) (omega arith))
 
-  pub call-is-smooth : run c ≡ smooth (duty c)
+  call-is-smooth : run c ≡ smooth (duty c)
   unfolding told
   call-is-smooth = ap (λ (t : Bool). told (if-sized t (mapped (outputOf (c .n) (c .room)) (smooth (duty c))))) (c .right) ∙ answers (smooth (duty c)) refl
 

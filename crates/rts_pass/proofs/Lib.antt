@@ -3,5 +3,4 @@ pub mod Pairs
 pub mod Steps
 pub mod Passes
 pub mod Outputs
-pub mod Readings
 pub mod Call

@@ -1,24 +1,23 @@
--- Laws of pairs and slots in a buffer: how long their numbers are, and what a pair that is put leaves. Assumes nothing.
-use mathlib.Core.Path.{_≡_, ap₂, _∙_}
-use mathlib.Core.Bool.{_&&_, cond}
+-- Laws of pairs in a buffer: how long their numbers are, what a pair that is put leaves, and that it is read back. Assumes nothing.
+use mathlib.Core.Path.{_≡_, refl, ap, ap₂, _∙_}
 use mathlib.Core.List.{List, _++_}
 use Prim.Native.Nat.{ℕ, _+_, _*_, _≤_}
+use native.Mathlib.Omega.{arith}
 use lib.ListN.{length, length-append}
 use lib.Ieee.{Float}
-use Rattle.matrix.specs.Matrix.{at}
-use Rattle.matrix.specs.Array.{cut, used}
-use Rattle.matrix.specs.Result.{sized}
 use Rattle.answer.proofs.Tables.{length-table}
-use Rattle.matrix.proofs.Matrices.{Shape, shape-mat}
-use Rattle.matrix.proofs.Arrays.{length-cut, shape-used}
-use Rattle.matrix.proofs.Results.{Size}
-use Rattle.kalman_step.specs.Kalman.{Estimate}
-use Rattle.kalman_step.specs.Step.{estimateFrom}
-use Rattle.buffer.specs.Buffer.{joined, placed, room}
-use Rattle.buffer.proofs.Places.{length-rows}
-use Rattle.buffer.proofs.Calls.{pair-put}
-use Rattle.smoothing.specs.Smoother.{Slot}
-use Rattle.rts_pass.specs.Buffer.{pairAt, slotFrom, pairLength, pairNumbers}
+use Rattle.algebra.specs.Matrix.{at}
+use Rattle.algebra.specs.Array.{cut, used, padRow, pad}
+use Rattle.algebra.proofs.Matrices.{Shape, shape-mat}
+use Rattle.algebra.proofs.Arrays.{used-pad, cut-padRow}
+use Rattle.matrix.specs.declared.Size.{Size}
+use Rattle.matrix.specs.Size.{count, front, part}
+use Rattle.filtering.specs.Filter.{Estimate, estimate}
+use Rattle.steps.specs.Step.{Rows, estimateIn, arraysOf}
+use Rattle.layout.specs.Layout.{matrixAt, vectorIn, matrixIn, joined, placed, putAt, pairLength}
+use Rattle.layout.proofs.Rows.{length-rows, state-placed, covariance-placed}
+use Rattle.layout.proofs.Calls.{vector-used, matrix-used, pair-put}
+use Rattle.rts_pass.specs.Buffer.{pairAt, pairNumbers}
 
 -- ---- a pair of size n
 pub record Paired (n : ℕ) (e : Estimate) : Type 0 where
@@ -29,24 +28,37 @@ pub length-pair : {n : ℕ} {e : Estimate} → Paired n e → length (pairNumber
 unfolding pairNumbers
 length-pair {n} {e} p = length-append (e .state) _ ∙ ap₂ (λ (i j : ℕ). i + j) (p .state) (length-rows n n (e .covariance) (p .covariance))
 
-pub paired-used : (n : ℕ) (x : List Float) (p : List (List Float)) → Paired n (estimateFrom n x p)
-paired-used n x p = record { state = length-cut n x; covariance = shape-used n n p }
-
--- a slot of a buffer
-pub record Slotted (n : ℕ) (s : Slot) : Type 0 where
-  pub filtered : Paired n (s .filtered)
-  pub predicted : Paired n (s .predicted)
-
 pub paired-at : (n : ℕ) (b : List Float) (k : ℕ) → Paired n (pairAt n b k)
 unfolding pairAt
 paired-at n b k = record { state = length-table n (λ i. at b (k + i)); covariance = shape-mat n n (λ i j. at b (k + n + i * n + j)) }
 
-pub slotted : (n : ℕ) (b : List Float) (k : ℕ) → Slotted n (slotFrom n b k)
-unfolding slotFrom
-slotted n b k = record { filtered = paired-at n b k; predicted = paired-at n b (k + pairLength n) }
+-- ---- a pair in arrays
 
--- what `put_pair` leaves where n is a size and there is room
-pub pair-placed : {n : ℕ} (k : ℕ) (b x : List Float) (p : List (List Float)) {b₁ : List Float} → Size n → k + pairLength n ≤ length b
-    → b₁ ≡ cond (sized n && room k (pairLength n) (length b)) (placed k (cut n x ++ joined (used n n p)) b) b → b₁ ≡ placed k (pairNumbers (estimateFrom n x p)) b
+-- what is read from number k on of b, where there is room: size is n as the code has it
+module _ (n : Size) (b : List Float) (k : ℕ) (h : k + pairLength (count n) ≤ length b) where
+  pub state-read : {x : List Float} → x ≡ padRow (vectorIn (count n) b k) → front n x ≡ pairAt (count n) b k .state
+  unfolding pairAt
+  state-read e = vector-used k b {n = count n} refl (omega arith) e
+
+  pub covariance-read : {size : ℕ} {p : Rows} → size ≡ count n → p ≡ pad (matrixIn (count n) (count n) b (k + size)) → part n n p ≡ pairAt (count n) b k .covariance
+  unfolding pairAt
+  covariance-read {size} es e = matrix-used (k + size) b {r = count n} {c = count n} refl refl (omega arith) e ∙ ap (λ (m : ℕ). matrixAt (count n) (count n) b (k + m)) es
+
+-- arrays that were made of a pair hold it
+pub held : (n : Size) {e : Estimate} {x : List Float} {p : Rows} → Paired (count n) e → (x, p) ≡ arraysOf e → estimateIn n x p ≡ e
+held n {e} h q =
+    ap₂ estimate
+    (ap (λ (a : List Float × Rows). front n (a .0)) q ∙ cut-padRow (count n) (e .state) (h .state))
+    (ap (λ (a : List Float × Rows). part n n (a .1)) q ∙ used-pad (count n) (count n) (e .covariance) (h .covariance))
+
+-- ---- what `put_pair` leaves where there is room: the size of the call, j, is n
+pub pair-placed : {j n : ℕ} (k : ℕ) (b x : List Float) (p : Rows) {b₁ : List Float} → j ≡ n → k + pairLength n ≤ length b
+    → b₁ ≡ putAt k (cut j x ++ joined (used j j p)) b → b₁ ≡ placed k (pairNumbers (estimate (cut n x) (used n n p))) b
 unfolding pairNumbers
-pair-placed k b x p N h q = pair-put k b x p N h q
+pair-placed k b x p e h q = pair-put k b x p e h q
+
+-- it is read back
+pub pair-back : {n : ℕ} {e : Estimate} (k : ℕ) (b : List Float) → Paired n e → k + pairLength n ≤ length b → pairAt n (placed k (pairNumbers e) b) k ≡ e
+unfolding pairAt pairNumbers
+pair-back {n} {e} k b h l =
+    ap₂ estimate (state-placed k (e .state) (e .covariance) b (h .state) (h .covariance) l) (covariance-placed k (e .state) (e .covariance) b (h .state) (h .covariance) l)

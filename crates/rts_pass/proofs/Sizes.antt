@@ -7,24 +7,28 @@ use native.Mathlib.Omega.{arith}
 use lib.Dec.{leb}
 use borrow.Author.Tests.{leb-true, eqb-true}
 use Rattle.answer.proofs.Choice.{cond-true, and-left, and-right}
-use Rattle.matrix.specs.Result.{sized}
-use Rattle.buffer.proofs.Places.{ends-within}
-use Rattle.matrix.proofs.Results.{Size, size-of, sized-true}
-use Rattle.rts_pass.specs.Buffer.{pairLength, stride, roomy, counted, buffered}
+use Rattle.matrix.specs.Size.{sized}
+use Rattle.matrix.proofs.Sizes.{Bounds, bounds-of}
+use Rattle.layout.specs.Layout.{pairLength, stride}
+use Rattle.layout.proofs.Rows.{ends-within}
+use Rattle.rts_pass.specs.Buffer.{roomy, counted, buffered}
 use Rattle.rts_pass.specs.Pass.{smoothable}
 
 -- ---- what a test that was passed says
 pub record Counted (n T c : ℕ) : Type 0 where
-  pub size : Size n
+  pub size : sized n ≡ true
+  pub bounds : Bounds n
   pub few : T ≤ 64
   pub within : c ≤ T
 
 pub counted-of : (n T c : ℕ) → counted n T c ≡ true → Counted n T c
 unfolding counted roomy
 counted-of n T c e =
+    let size = and-left _ _ e in
     let rest = and-right (sized n) _ e in
     record {
-      size = size-of n (and-left _ _ e);
+      size = size;
+      bounds = bounds-of n size;
       few = leb-true T 64 (and-right (leb 1 T) _ (and-left _ _ rest));
       within = leb-true c T (and-right (leb 1 T && leb T 64) _ rest);
     }
@@ -49,16 +53,16 @@ smoothable-of m o n T c e = record { buffer = buffered-of m n T c (and-left _ _ 
 pub square-small : {n : ℕ} → n ≤ 4 → n * n ≤ 16
 square-small {n} h = omega (arith, mul-le-mul-left n h)
 
-pub stride-small : {n : ℕ} → n ≤ 4 → stride n ≤ 40
+stride-small : {n : ℕ} → n ≤ 4 → stride n ≤ 40
 stride-small h = omega (arith, square-small h)
 
 -- the stride as the code has it, where n is a size
-pub stride-is : {n r : ℕ} → Size n → r ≡ cond (sized n) (stride n) 0 → r ≡ stride n
-stride-is {n} N e = e ∙ cond-true (stride n) 0 (sized-true N)
+pub stride-is : (n : ℕ) {r : ℕ} → sized n ≡ true → r ≡ cond (sized n) (stride n) 0 → r ≡ stride n
+stride-is n t e = e ∙ cond-true (stride n) 0 t
 
--- slot k of c, for a stride r as the code has it, in a buffer of m numbers
-pub slot-room : {k c r m : ℕ} (s : ℕ) → k < c → c * s ≤ m → r ≡ s → k * r + s ≤ m
-slot-room {k} {c} {r} {m} s h f e = subst⁻¹ (λ (t : ℕ). k * t + s ≤ m) e (omega (arith, ends-within {k = k} {n = c} s h))
+-- part k of c that take s numbers each, which the code has as r, in a buffer of m numbers
+pub part-room : {k c r m : ℕ} (s : ℕ) → k < c → c * s ≤ m → r ≡ s → k * r + s ≤ m
+part-room {k} {c} {r} {m} s h f e = subst⁻¹ (λ (t : ℕ). k * t + s ≤ m) e (omega (arith, ends-within {k = k} {n = c} s h))
 
 pub buffer-small : {n T : ℕ} → n ≤ 4 → T ≤ 64 → T * stride n ≤ 2560
 buffer-small {n} {T} h k = omega (arith, mul-le-mul-right (stride n) k, stride-small h)
@@ -66,8 +70,9 @@ buffer-small {n} {T} h k = omega (arith, mul-le-mul-right (stride n) k, stride-s
 pub output-small : {n T : ℕ} → n ≤ 4 → T ≤ 64 → T * pairLength n ≤ 1280
 output-small {n} {T} h k = omega (arith, mul-le-mul-right (pairLength n) k, square-small h)
 
--- what the pass asks for, where the sizes are right and a slot is stored
-pub passable : {m o n T c : ℕ} → Smoothable m o n T c → 1 ≤ c → (sized n ≡ true) × (1 ≤ c) × (c ≤ 64) × (c * stride n ≤ m) × (c * pairLength n ≤ 1280)
-passable {m} {o} {n} {T} {c} s h =
-    let f = s .buffer .sizes in
-    (sized-true (f .size), h, omega (arith, f), omega (arith, s .buffer .whole, mul-le-mul-right (stride n) (f .within)), output-small (f .size .most) (omega (arith, f)))
+-- what the pass asks for, where the sizes are right and a slot is stored: s is the size as the code has it
+pub passable : {m o n T c s : ℕ} → Smoothable m o n T c → 1 ≤ c → s ≡ n → (1 ≤ c) × (c ≤ 64) × (c * stride s ≤ m) × (c * pairLength s ≤ 1280)
+passable {m} {o} {n} {T} {c} t h e =
+    let f = t .buffer .sizes in
+    subst⁻¹ (λ (s : ℕ). (1 ≤ c) × (c ≤ 64) × (c * stride s ≤ m) × (c * pairLength s ≤ 1280)) e
+    (h, omega (arith, f), omega (arith, t .buffer .whole, mul-le-mul-right (stride n) (f .within)), output-small (f .bounds .most) (omega (arith, f)))

@@ -1,6 +1,5 @@
--- One slot as the code smooths it, one kernel after another, is its definition where the size is right. Assumes nothing.
-use mathlib.Core.Path.{_≡_, sym, ap, ap₂, _∙_, subst⁻¹}
-use mathlib.Core.Bool.{Bool, _&&_}
+-- One slot as the code smooths it, by what inversion answers: of any size in arrays, and of two states by its numbers. Assumes nothing.
+use mathlib.Core.Path.{_≡_, sym, ap, _∙_}
 use mathlib.Core.List.{List}
 use Prim.Native.Nat.{ℕ, _+_, _*_, _≤_}
 use native.Mathlib.Omega.{arith}
@@ -8,114 +7,104 @@ use lib.ListN.{length}
 use lib.Ieee.{Float}
 use Rattle.answer.specs.declared.Status.{Status}
 use Rattle.answer.specs.declared.Status.the-variants.{Done, Refused}
+use Rattle.answer.specs.Answer.{answered}
+use Rattle.algebra.specs.Matrix.{Matrix, at, sub, vecSub, twoByTwo}
+use Rattle.algebra.specs.Array.{cut, used, padRow, pad}
+use Rattle.algebra.specs.Inverse.{inv}
+use Rattle.algebra.proofs.Matrices.{shape-sub}
+use Rattle.algebra.proofs.Vectors.{length-vecSub}
+use Rattle.algebra.proofs.Arrays.{used-pad, cut-padRow}
+use Rattle.algebra.proofs.Inverses.{inv-shape}
+use Rattle.matrix.specs.declared.Size.{Size}
 use Rattle.matrix.specs.declared.MatrixResult.{MatrixResult}
-use Rattle.answer.specs.Answer.{answered, mapped, where-sized, if-sized}
-use Rattle.matrix.specs.Matrix.{Vector, Matrix, mul, matvec, add, sub, transpose, vecAdd, vecSub}
-use Rattle.matrix.specs.Array.{cut, used, padRow, pad}
-use Rattle.matrix.specs.Kernel.{rowsOf, cellsOf}
-use Rattle.matrix.specs.Result.{asMatrix, sized, shaped}
-use Rattle.answer.proofs.Answers.{differ, same-answer}
-use Rattle.matrix.proofs.Matrices.{Shape}
-use Rattle.matrix.proofs.Vectors.{length-matvec, length-vecSub}
-use Rattle.matrix.proofs.Arrays.{used-pad, cut-padRow}
-use Rattle.matrix.proofs.Results.{Size, sized-true, shaped-true}
-use Rattle.matrix.proofs.Kernels.{cells-sized, used-sized, cut-sized, shape-sub, shape-add}
-use Rattle.buffer.specs.Buffer.{vectorAt, matrixAt, room}
-use Rattle.buffer.proofs.Calls.{vector-read, matrix-read}
-use Rattle.inverse.specs.Inverse.{inv}
-use Rattle.kalman_step.specs.Kalman.{gain}
-use Rattle.inverse.proofs.Laws.{was-answered, was-refused}
-use Rattle.kalman_step.proofs.Steps.{shape-gain}
-use Rattle.smoothing.specs.Smoother.{Slot, slotGain, movedState, movedCovariance}
-use Rattle.rts_pass.specs.Buffer.{pairLength, stride, pairAt, slotFrom}
-use Rattle.rts_pass.specs.Pass.{statusOf, Stepped, stateMoved, covarianceMoved}
-use Rattle.rts_pass.proofs.Pairs.{slotted}
+use Rattle.matrix.specs.declared.VectorResult.{VectorResult}
+use Rattle.matrix.specs.Size.{count, front, part}
+use Rattle.matrix.specs.Result.{asMatrix}
+use Rattle.inverse.specs.Two.{inRows}
+use Rattle.inverse.proofs.Results.{was-answered, was-refused}
+use Rattle.filtering.specs.Filter.{Estimate, propagated, gain, correctedState}
+use Rattle.steps.specs.declared.road.Two.{Two}
+use Rattle.steps.specs.declared.road.Pair.{Pair}
+use Rattle.steps.specs.Road.{matrixOf, estimateOf}
+use Rattle.steps.specs.Step.{Rows, estimateIn, arraysOf}
+use Rattle.filtering.proofs.Shapes.{shape-gain}
+use Rattle.layout.specs.Layout.{vectorIn, matrixIn, pairLength, stride}
+use Rattle.smoothing.specs.Smoother.{Slot, smoothedState, smoothedCovariance, smoothedPair, smoothSlot}
+use Rattle.smoothing.proofs.Slots.{covariance-propagated, slot-answered, slot-refused}
+use Rattle.rts_pass.specs.Buffer.{pairAt, slotFrom}
+use Rattle.rts_pass.specs.Pass.{slotOf, smoothLeft}
+use Rattle.rts_pass.proofs.Pairs.{state-read, covariance-read}
 
--- a vector, and a matrix, in its array
-pub cut-of : {n : ℕ} (v : Vector) {a : List Float} → length v ≡ n → a ≡ padRow v → cut n a ≡ v
-cut-of {n} v l e = ap (cut n) e ∙ cut-padRow n v l
-
-pub used-of : {n : ℕ} {A : Matrix} {a : List (List Float)} → Shape n n A → a ≡ pad A → used n n a ≡ A
-used-of {n} {A} s e = ap (used n n) e ∙ used-pad n n A s
-
-module _ {n : ℕ} (N : Size n) where
-  -- x + G d
-  pub state-is : (x y : List Float) (g : List (List Float)) (next : List Float) {d gd v : List Float}
-      → d ≡ cellsOf (where-sized (sized n) (vecSub n (cut n next) (cut n y)))
-      → gd ≡ cellsOf (where-sized (shaped n n) (matvec n n (used n n g) (cut n d)))
-      → v ≡ cellsOf (where-sized (sized n) (vecAdd n (cut n x) (cut n gd)))
-      → v ≡ padRow (stateMoved n (cut n x) (cut n y) (used n n g) (cut n next))
-  unfolding movedState
-  state-is x y g next {d} ed egd ev =
-      cells-sized _ (sized-true N) ev
-      ∙ ap (λ (v : Vector). padRow (vecAdd n (cut n x) v))
-      (cut-sized _ (length-matvec n n (used n n g) (cut n d)) (shaped-true N N) egd
-      ∙ ap (matvec n n (used n n g)) (cut-sized _ (length-vecSub n (cut n next) (cut n y)) (sized-true N) ed))
-
-  -- P + (G D) Gᵀ, where the code has D in d
-  pub covariance-is : (c q g next : List (List Float)) {d : List (List Float)} → d ≡ rowsOf (where-sized (shaped n n) (sub n n (used n n next) (used n n q)))
-      → add n n (used n n c) (mul n n n (mul n n n (used n n g) (used n n d)) (transpose n n (used n n g))) ≡ covarianceMoved n (used n n c) (used n n q) (used n n g) (used n n next)
-  unfolding movedCovariance
-  covariance-is c q g next e =
-      ap (λ (D : Matrix). add n n (used n n c) (mul n n n (mul n n n (used n n g) D) (transpose n n (used n n g))))
-      (used-sized (shape-sub n n (used n n next) (used n n q)) (shaped-true N N) e)
-
-pub shape-moved : (n : ℕ) (P Q G next : Matrix) → Shape n n (covarianceMoved n P Q G next)
-unfolding movedCovariance
-shape-moved n P Q G next = shape-add n n P (mul n n n (mul n n n G (sub n n next Q)) (transpose n n G))
-
--- ---- the slot from number k on of b, by what the code reads of it: q and w are its predicted covariance and that inverted
-module _ {n : ℕ} (N : Size n) (b : List Float) (k : ℕ) (h : k + stride n ≤ length b) (F : Matrix) {q : List (List Float)}
-    (eq : q ≡ rowsOf (where-sized (shaped n n && room (k + pairLength n + n) (n * n) (length b)) (matrixAt n n b (k + pairLength n + n))))
-    {w : MatrixResult} (e : w ≡ asMatrix (if-sized (sized n) (inv n (used n n q)))) (x : List Float) (p : List (List Float)) where
+-- ---- the slot from number k on of b, of any size: q and w are its predicted covariance and that inverted
+module _ (n : Size) (b : List Float) (k : ℕ) (h : k + stride (count n) ≤ length b) (f : Rows) (x : List Float) (p : Rows) {size : ℕ} (es : size ≡ count n)
+    {q : Rows} (eq : q ≡ pad (matrixIn (count n) (count n) b (k + (size + size * size) + size))) {w : MatrixResult} (ew : w ≡ asMatrix (inv (count n) (part n n q))) where
   abbrev s : Slot
-  s = slotFrom n b k
+  s = slotFrom (count n) b k
 
-  predicted : used n n q ≡ s .predicted .covariance
-  unfolding slotFrom pairAt
-  predicted = used-of (slotted n b k .predicted .covariance) (matrix-read (k + pairLength n + n) b N N (omega arith) eq)
+  abbrev outcome : Status × (List Float × Rows)
+  outcome = smoothLeft arraysOf (x, p) (smoothSlot (count n) (part n n f) s (estimateIn n x p))
 
-  inverse : w ≡ asMatrix (inv n (s .predicted .covariance))
-  inverse = e ∙ ap₂ (λ (t : Bool) (A : Matrix). asMatrix (if-sized t (inv n A))) (sized-true N) predicted
+  -- a pair is as long as the code has it, so the predicted one lies within b
+  long : size + size * size ≡ pairLength (count n)
+  long = ap pairLength es
 
-  -- c, u and v are its filtered covariance, filtered state and predicted state, and g its gain
-  pub step-done : {rows c g : List (List Float)} {u v y : List Float} {m : List (List Float)} → w .status ≡ Done → rows ≡ w .rows
-      → c ≡ rowsOf (where-sized (shaped n n && room (k + n) (n * n) (length b)) (matrixAt n n b (k + n)))
-      → u ≡ cellsOf (where-sized (sized n && room k n (length b)) (vectorAt n b k))
-      → v ≡ cellsOf (where-sized (sized n && room (k + pairLength n) n (length b)) (vectorAt n b (k + pairLength n)))
-      → g ≡ pad (gain n n (used n n c) F (used n n rows))
-      → y ≡ padRow (stateMoved n (cut n u) (cut n v) (used n n g) (cut n x))
-      → m ≡ pad (covarianceMoved n (used n n c) (used n n q) (used n n g) (used n n p))
-      → Stepped n F s x p y m Done
-  unfolding slotGain movedState movedCovariance slotFrom pairAt
-  step-done {rows} {c} {g} {u} {v} d er ec eu ev eg ey em =
-      let S = slotted n b k in
-      let P : used n n c ≡ s .filtered .covariance = used-of (S .filtered .covariance) (matrix-read (k + n) b N N (omega arith) ec) in
-      let a : slotGain n F s ≡ answered (used n n g) =
-      ap (mapped (gain n n (s .filtered .covariance) F))
-      (was-answered n (s .predicted .covariance) w inverse d ∙ ap (λ (r : List (List Float)). answered (used n n r)) (sym er))
-      ∙ ap answered (sym (used-of (shape-gain n n (used n n c) F (used n n rows)) eg ∙ ap (λ (A : Matrix). gain n n A F (used n n rows)) P)) in
-      record {
-        told = ap statusOf (sym a);
-        state = λ G i.
-            ey
-            ∙ ap₂ (λ (α β : Vector). padRow (stateMoved n α β (used n n g) (cut n x)))
-            (cut-of (s .filtered .state) (S .filtered .state) (vector-read k b N (omega arith) eu))
-            (cut-of (s .predicted .state) (S .predicted .state) (vector-read (k + pairLength n) b N (omega arith) ev))
-            ∙ ap (λ (K : Matrix). padRow (movedState n s K (cut n x))) (same-answer (sym a ∙ i));
-        covariance = λ G i.
-            em
-            ∙ ap₂ (λ (A B : Matrix). pad (covarianceMoved n A B (used n n g) (used n n p))) P predicted
-            ∙ ap (λ (K : Matrix). pad (movedCovariance n s K (used n n p))) (same-answer (sym a ∙ i));
-      }
+  inside : k + (size + size * size) + pairLength (count n) ≤ length b
+  inside = omega (arith, long, h)
 
-  pub step-refused : {k : ℕ} (y : List Float) (m : List (List Float)) → w .status ≡ Refused k → Stepped n F s x p y m (Refused k)
-  unfolding slotGain
-  step-refused y m d =
-      let a = ap (mapped (gain n n (s .filtered .covariance) F)) (was-refused n (s .predicted .covariance) w inverse d) in
-      record { told = ap statusOf (sym a); state = λ G b. absurd (differ (sym a ∙ b)); covariance = λ G b. absurd (differ (sym a ∙ b)) }
+  predicted : part n n q ≡ s .predicted .covariance
+  unfolding slotFrom
+  predicted = covariance-read n b (k + (size + size * size)) inside es eq ∙ ap (λ (m : ℕ). pairAt (count n) b (k + m) .covariance) long
 
--- the same for a size n that is m
-pub step-sized : {n m : ℕ} (b : List Float) (k : ℕ) (f : List (List Float)) {x y : List Float} {p q : List (List Float)} {t : Status} → n ≡ m
-    → Stepped m (used m m f) (slotFrom m b k) x p y q t → Stepped n (used n n f) (slotFrom n b k) x p y q t
-step-sized b k f {x} {y} {p} {q} {t} e h = subst⁻¹ (λ (j : ℕ). Stepped j (used j j f) (slotFrom j b k) x p y q t) e h
+  inverse : w ≡ asMatrix (inv (count n) (s .predicted .covariance))
+  inverse = ew ∙ ap (λ (A : Matrix). asMatrix (inv (count n) A)) predicted
+
+  pub step-refused : {j : ℕ} → w .status ≡ Refused j → (Refused j, (x, p)) ≡ outcome
+  step-refused d = sym (ap (smoothLeft arraysOf (x, p)) (slot-refused (count n) (part n n f) s (estimateIn n x p) (was-refused (inv (count n) (s .predicted .covariance)) inverse d)))
+
+  -- c, u and v are its filtered covariance, filtered state and predicted state, g its gain, and dx and dp the differences
+  pub step-done : {rows c g dp p′ : Rows} {u v dx x′ : List Float} → w .status ≡ Done → rows ≡ w .rows
+      → c ≡ pad (matrixIn (count n) (count n) b (k + size))
+      → g ≡ pad (gain (count n) (count n) (part n n c) (part n n f) (part n n rows))
+      → u ≡ padRow (vectorIn (count n) b k)
+      → v ≡ padRow (vectorIn (count n) b (k + (size + size * size)))
+      → dx ≡ padRow (vecSub (count n) (front n x) (front n v))
+      → dp ≡ pad (sub (count n) (count n) (part n n p) (part n n q))
+      → x′ ≡ padRow (correctedState (count n) (count n) (part n n g) (front n dx) (front n u))
+      → p′ ≡ pad (propagated (count n) (count n) (part n n g) (part n n dp) (part n n c))
+      → (Done, (x′, p′)) ≡ outcome
+  unfolding slotFrom smoothedPair smoothedState
+  step-done {rows} {c} {g} {dp} {p′} {u} {v} {dx} {x′} d er ec eg eu ev edx edp ex ep =
+      let N = count n in
+      let F = part n n f in
+      let W = part n n rows in
+      let isW : inv N (s .predicted .covariance) ≡ answered W =
+      was-answered (inv N (s .predicted .covariance)) (inv-shape N (s .predicted .covariance)) inverse d ∙ ap (λ (r : Rows). answered (part n n r)) (sym er) in
+      let C : part n n c ≡ s .filtered .covariance = covariance-read n b k (omega (arith, h)) es ec in
+      let U : front n u ≡ s .filtered .state = state-read n b k (omega (arith, h)) eu in
+      let Y : front n v ≡ s .predicted .state = state-read n b (k + (size + size * size)) inside ev ∙ ap (λ (m : ℕ). pairAt N b (k + m) .state) long in
+      let K = gain N N (s .filtered .covariance) F W in
+      let isK : part n n g ≡ K = ap (part n n) eg ∙ used-pad N N _ (shape-gain N N (part n n c) F W) ∙ ap (λ (A : Matrix). gain N N A F W) C in
+      let isX : front n dx ≡ vecSub N (front n x) (s .predicted .state) = ap (front n) edx ∙ cut-padRow N _ (length-vecSub N (front n x) (front n v)) ∙ ap (vecSub N (front n x)) Y in
+      let isP : part n n dp ≡ sub N N (part n n p) (s .predicted .covariance) = ap (part n n) edp ∙ used-pad N N _ (shape-sub N N (part n n p) (part n n q)) ∙ ap (sub N N (part n n p)) predicted in
+      let state : x′ ≡ padRow (smoothedState N s K (front n x)) = ex ∙ λ i. padRow (correctedState N N (isK i) (isX i) (U i)) in
+      let covariance : p′ ≡ pad (smoothedCovariance N s K (part n n p)) = ep ∙ (λ i. pad (propagated N N (isK i) (isP i) (C i))) ∙ ap pad (sym (covariance-propagated N s K (part n n p))) in
+      (λ i. (Done, (state i, covariance i))) ∙ sym (ap (smoothLeft arraysOf (x, p)) (slot-answered N F s (estimateIn n x p) isW))
+
+-- ---- the slot of the filtered pair e and the predicted pair y, of two states: r has the inverted predicted covariance
+module _ (e y next : Pair) (f : Two) (r : VectorResult) (er : inRows r ≡ asMatrix (inv 2 (matrixOf (y .p)))) where
+  abbrev outcome-two : Status × Estimate
+  outcome-two = smoothLeft (λ s. s) (estimateOf next) (smoothSlot 2 (matrixOf f) (slotOf e y) (estimateOf next))
+
+  pub two-refused : {j : ℕ} → r .status ≡ Refused j → (Refused j, estimateOf next) ≡ outcome-two
+  two-refused d = sym (ap (smoothLeft (λ s. s) (estimateOf next)) (slot-refused 2 (matrixOf f) (slotOf e y) (estimateOf next) (was-refused (inv 2 (matrixOf (y .p))) er d)))
+
+  abbrev inverted : Matrix
+  inverted = twoByTwo (at (r .cells) 0) (at (r .cells) 1) (at (r .cells) 2) (at (r .cells) 3)
+
+  pub two-done : {G : Matrix} {v : Estimate} → r .status ≡ Done → G ≡ gain 2 2 (matrixOf (e .p)) (matrixOf f) inverted
+      → v ≡ smoothedPair 2 (slotOf e y) G (estimateOf next) → (Done, v) ≡ outcome-two
+  unfolding used cut pad
+  two-done d eg ev =
+      let isW : inv 2 (matrixOf (y .p)) ≡ answered inverted = was-answered (inv 2 (matrixOf (y .p))) (inv-shape 2 (matrixOf (y .p))) er d in
+      (λ i. (Done, (ev ∙ ap (λ (G : Matrix). smoothedPair 2 (slotOf e y) G (estimateOf next)) eg) i))
+      ∙ sym (ap (smoothLeft (λ s. s) (estimateOf next)) (slot-answered 2 (matrixOf f) (slotOf e y) (estimateOf next) isW))

@@ -1,24 +1,16 @@
 -- How slots and smoothed pairs lie in lent buffers, one number after another, for state size n. Definitions only.
-use Prim.Native.Nat.{ℕ, _+_, _-_, _*_}
+use Prim.Native.Nat.{ℕ, _+_, _*_}
 use mathlib.Core.List.{List, _++_, map}
 use mathlib.Core.Bool.{Bool, _&&_}
 use lib.Dec.{leb, eqb}
-use lib.ListN.{length, replicate}
 use lib.Ieee.{Float}
 use Rattle.scalar.specs.Number.{+0}
-use Rattle.answer.specs.Table.{table}
-use Rattle.matrix.specs.Matrix.{Matrix}
-use Rattle.matrix.specs.Result.{sized}
-use Rattle.buffer.specs.Buffer.{vectorAt, matrixAt, joined}
-use Rattle.kalman_step.specs.Kalman.{Estimate}
+use Rattle.answer.specs.Table.{table, padTo}
+use Rattle.algebra.specs.Matrix.{Matrix}
+use Rattle.matrix.specs.Size.{sized}
+use Rattle.layout.specs.Layout.{vectorAt, matrixAt, joined, pairLength, stride}
+use Rattle.filtering.specs.Filter.{Estimate}
 use Rattle.smoothing.specs.Smoother.{Slot, Duty}
-
--- how many numbers a pair takes, and a slot, which is two pairs
-abbrev pub pairLength : ℕ → ℕ
-pairLength n = n + n * n
-
-abbrev pub stride : ℕ → ℕ
-stride n = 2 * n + 2 * (n * n)
 
 -- ---- what stands in a buffer b
 
@@ -34,9 +26,12 @@ slotFrom n b k = record { filtered = pairAt n b k; predicted = pairAt n b (k + p
 abbrev pub slotAt : ℕ → List Float → ℕ → Slot
 slotAt n b k = slotFrom n b (k * stride n)
 
--- the first c slots, as a duty; what stands past them plays no part
+-- the first c slots, and as a duty; what stands past them plays no part
+abbrev pub slotsOf : ℕ → List Float → ℕ → List Slot
+slotsOf n b c = table c (λ k. slotAt n b k)
+
 unfoldable pub dutyOf : ℕ → Matrix → List Float → ℕ → Duty
-dutyOf n F b c = record { size = n; transition = F; slots = table c (λ k. slotAt n b k) }
+dutyOf n F b c = record { size = n; transition = F; slots = slotsOf n b c }
 
 -- ---- pairs and slots, one number after another
 unfoldable pub pairNumbers : Estimate → List Float
@@ -47,7 +42,7 @@ slotNumbers s = pairNumbers (s .filtered) ++ pairNumbers (s .predicted)
 
 -- the output with room for T pairs: the pairs, then +0
 unfoldable pub outputOf : ℕ → ℕ → List Estimate → List Float
-outputOf n T l = joined (map pairNumbers l) ++ replicate ((T - length l) * pairLength n) +0
+outputOf n T l = padTo (T * pairLength n) +0 (joined (map pairNumbers l))
 
 -- ---- sizes
 

@@ -9,10 +9,11 @@ use Rattle.answer.specs.declared.Status.{Status}
 use Rattle.answer.specs.declared.Status.the-variants.{Done, Refused}
 use Rattle.answer.specs.Answer.{Answer, refused, answered}
 use Rattle.answer.specs.Table.{table}
-use Rattle.matrix.specs.Array.{used}
-use Rattle.kalman_step.specs.Kalman.{Estimate}
+use Rattle.algebra.specs.Array.{used}
+use Rattle.filtering.specs.Filter.{Estimate}
 use Rattle.smoothing.specs.Smoother.{Duty}
-use Rattle.rts_pass.specs.Buffer.{pairLength, pairAt, dutyOf}
+use Rattle.layout.specs.Layout.{pairLength}
+use Rattle.rts_pass.specs.Buffer.{pairAt, dutyOf}
 use Rattle.rts_pass.specs.Pass.{smoothable, smoothOf}
 
 -- what the call is given; all sizes are right
@@ -39,4 +40,4 @@ answerOf n c Done l = answered (pairsOf n c l)
 answerOf n c (Refused k) l = refused k
 
 abbrev pub run : Call → Answer (List Estimate)
-run c = let x = smoothOf (c .n) (c .room) (c .count) (c .slots) (c .transition) (c .output) in answerOf (c .n) (c .count) (x .told) (x .content)
+run c = let x = smoothOf (c .n) (c .room) (c .count) (c .slots) (c .transition) (c .output) in answerOf (c .n) (c .count) (x .0) (x .1)

@@ -1,20 +1,26 @@
-// The pass of Rauch, Tung and Striebel over slots in a buffer that the caller lends, with the operations and the order
-// of src/estimator/rts_smoother.rs. Slot k is 2n + 2n² numbers: state, covariance by rows, predicted state, predicted
-// covariance; a smoothed pair is n + n² numbers. Rests on the definition in crates/smoothing.
+// The pass of Rauch, Tung and Striebel over slots in a buffer that the caller lends, with the operations and the order of
+// src/estimator/rts_smoother.rs. Slot k is 2n + 2n² numbers: state, covariance by rows, predicted state, predicted covariance; a
+// smoothed pair is n + n² numbers. Rests on the definition in crates/smoothing.
 ghost use mathlib.Core.Path.{_≡_};
-ghost use mathlib.Core.Bool.{true, cond};
+ghost use mathlib.Core.Bool.{cond};
 ghost use Prim.Native.Nat.{_+_, _*_, _≤_};
 ghost use lib.ListN.{length};
-ghost use Rattle.matrix.specs.Array.{cut, used, padRow, pad};
-ghost use Rattle.answer.specs.Table.{table};
-ghost use Rattle.matrix.specs.Result.{sized};
-ghost use Rattle.buffer.specs.Buffer.{left};
-ghost use Rattle.kalman_step.specs.Kalman.{gain};
-ghost use Rattle.smoothing.specs.Smoother.{smoothed};
-ghost use Rattle.rts_pass.specs.Buffer.{pairLength, stride, slotFrom, slotAt, roomy, counted, buffered};
-ghost use Rattle.rts_pass.specs.Pass.{smoothable, smoothOf, Passed, Stepped, stateMoved, covarianceMoved};
+ghost use Rattle.matrix.specs.Size.{count, part, sized};
+ghost use Rattle.filtering.specs.Filter.{gain};
+ghost use Rattle.layout.specs.Layout.{matrixAt, placed, pairLength, stride};
+ghost use Rattle.steps.specs.Step.{estimateIn, arraysOf};
+ghost use Rattle.steps.specs.Road.{matrixOf, estimateOf};
+ghost use Rattle.smoothing.specs.Smoother.{smoothedPair, smoothSlot, smoothSlots};
+ghost use Rattle.rts_pass.specs.Buffer.{pairAt, slotFrom, slotsOf, pairNumbers, roomy, counted, buffered};
+ghost use Rattle.rts_pass.specs.Pass.{slotOf, smoothable, smoothOf, smoothLeft, Passed};
 use answer::Status;
+use matrix::Size;
+use matrix::both;
 use matrix::kernel;
+use matrix::number;
+use matrix::size_of;
+use steps::road::Pair;
+use steps::road::Two;
 
 // ---- sizes, tested by one bool
 
@@ -22,17 +28,14 @@ use matrix::kernel;
 fn is_room(room: usize) -> bool
     ensures { λ t. ⌜ t ≡ roomy room ⌝ }
 {
-    matrix::both(1 <= room, room <= 64)
+    both(1 <= room, room <= 64)
 }
 
 // A state size, a room, and a count of slots that have room.
 pub fn is_counted(n: usize, room: usize, count: usize) -> bool
     ensures { λ t. ⌜ t ≡ counted n room count ⌝ }
 {
-    matrix::both(
-        matrix::is_size(n),
-        matrix::both(is_room(room), count <= room),
-    )
+    both(matrix::is_size(n), both(is_room(room), count <= room))
 }
 
 // How many numbers a slot takes; 0 where n is no size.
@@ -57,245 +60,227 @@ pub fn is_buffered(len: usize, n: usize, room: usize, count: usize) -> bool
     }
 }
 
-// ---- one slot
+// ---- a slot of two states, by its numbers
 
-// x + G d, with d the next slot's smoothed state less the predicted state y.
-fn moved_state<'a>(
-    x: &'a [f64; 4],
-    y: &'a [f64; 4],
-    g: &'a [[f64; 4]; 4],
-    next: &'a [f64; 4],
-    n: usize,
-) -> [f64; 4]
-    requires { ⌜ sized n ≡ true ⌝ }
-    ensures { λ v. ⌜ v ≡ padRow (stateMoved n (cut n (now (x .entry))) (cut n (now (y .entry))) (used n n (now (g .entry))) (cut n (now (next .entry)))) ⌝ }
-{
-    let d = kernel::vector_difference(*next, *y, n);
-    let gd = kernel::product_vector(g, &d, n, n);
-    kernel::vector_sum(*x, gd, n)
+// A slot's smoothed pair beside the answer; beside a refusal, the next slot's.
+struct PairSmoothed {
+    answer: Status,
+    pair: Pair,
 }
 
-// P + (G D) Gᵀ, with P the covariance c, and D the next slot's smoothed covariance less the predicted covariance q.
-fn moved_covariance<'a>(
-    c: &'a [[f64; 4]; 4],
-    q: &'a [[f64; 4]; 4],
-    g: &'a [[f64; 4]; 4],
-    next: &'a [[f64; 4]; 4],
-    n: usize,
-) -> [[f64; 4]; 4]
-    requires { ⌜ sized n ≡ true ⌝ }
-    ensures { λ v. ⌜ v ≡ pad (covarianceMoved n (used n n (now (c .entry))) (used n n (now (q .entry))) (used n n (now (g .entry))) (used n n (now (next .entry)))) ⌝ }
+// The rows of two numbers from number k on.
+fn two_at(b: &[f64], k: usize) -> Two
+    requires { ⌜ k + 4 ≤ length (now b) ⌝ }
+    ensures { λ t. ⌜ matrixOf t ≡ matrixAt 2 2 (now (b .entry)) k ⌝ }
 {
-    let d = kernel::difference(next, q, n, n);
-    let mut out = [[0.0; 4]; 4];
-    for i in 0..n {
-        let gd = kernel::row_product(g[i], &d, n);
-        let gdgt = kernel::row_product_transposed(gd, g, n);
-        out[i] = matrix::kept(kernel::row_sum(c[i], gdgt), n);
-    }
-    out
-}
-
-// ---- a slot of size 1 or 2, straight-line: x and p, the next slot's smoothed pair, become this slot's. Each sum starts
-// at +0, as for any size. Refused with 3: inversion rejects the slot's predicted covariance.
-
-// A slot of size 1 is 4 numbers, and its predicted pair begins at number 2.
-fn step_one<'a>(
-    slots: &'a [f64],
-    k: usize,
-    f: &'a [[f64; 4]; 4],
-    x: &mut [f64; 4],
-    p: &mut [[f64; 4]; 4],
-) -> Status
-    requires { ⌜ k + 4 ≤ length (now slots) ⌝ }
-    ensures { λ s. ⌜ Stepped 1 (used 1 1 (now (f .entry))) (slotFrom 1 (now (slots .entry)) k) (now (x .entry)) (now (p .entry)) (now (x .exit)) (now (p .exit)) s ⌝ }
-{
-    let q = buffer::matrix_at(slots, k + 2 + 1, 1, 1);
-    let w = inverse::inverse_of(&q, 1);
-    let status = w.status;
-    match status {
-        Status::Done => {
-            let rows = matrix::rows_of(w);
-            let c = buffer::matrix_at(slots, k + 1, 1, 1);
-            let state = buffer::vector_at(slots, k, 1);
-            let y = buffer::vector_at(slots, k + 2, 1);
-            let g = 0.0 + (0.0 + c[0][0] * f[0][0]) * rows[0][0];
-            let gd = 0.0 + g * (p[0][0] - q[0][0]);
-            let v = c[0][0] + (0.0 + gd * g);
-            let u = state[0] + (0.0 + g * (x[0] - y[0]));
-            let z = [0.0; 4];
-            let r = [v, 0.0, 0.0, 0.0];
-            let m = [r, z, z, z];
-            *x = [u, 0.0, 0.0, 0.0];
-            *p = m;
-            Status::Done
-        }
-        Status::Refused(number) => Status::Refused(number),
+    Two {
+        a: b[k],
+        b: b[k + 1],
+        c: b[k + 2],
+        d: b[k + 3],
     }
 }
 
-fn gain_two<'a>(c: &'a [[f64; 4]; 4], f: &'a [[f64; 4]; 4], w: &'a [[f64; 4]; 4]) -> [[f64; 4]; 4]
-    ensures { λ g. ⌜ g ≡ pad (gain 2 2 (used 2 2 (now (c .entry))) (used 2 2 (now (f .entry))) (used 2 2 (now (w .entry)))) ⌝ }
+fn pair_at(b: &[f64], k: usize) -> Pair
+    requires { ⌜ k + 6 ≤ length (now b) ⌝ }
+    ensures { λ e. ⌜ estimateOf e ≡ pairAt 2 (now (b .entry)) k ⌝ }
 {
-    let c0 = c[0];
-    let c1 = c[1];
-    let f0 = f[0];
-    let f1 = f[1];
-    let w0 = w[0];
-    let w1 = w[1];
-    let t00 = 0.0 + c0[0] * f0[0] + c0[1] * f0[1];
-    let t01 = 0.0 + c0[0] * f1[0] + c0[1] * f1[1];
-    let t10 = 0.0 + c1[0] * f0[0] + c1[1] * f0[1];
-    let t11 = 0.0 + c1[0] * f1[0] + c1[1] * f1[1];
-    let g00 = 0.0 + t00 * w0[0] + t01 * w1[0];
-    let g01 = 0.0 + t00 * w0[1] + t01 * w1[1];
-    let g10 = 0.0 + t10 * w0[0] + t11 * w1[0];
-    let g11 = 0.0 + t10 * w0[1] + t11 * w1[1];
-    let z = [0.0; 4];
-    let r0 = [g00, g01, 0.0, 0.0];
-    let r1 = [g10, g11, 0.0, 0.0];
-    [r0, r1, z, z]
+    let p = two_at(b, k + 2);
+    Pair {
+        x0: b[k],
+        x1: b[k + 1],
+        p,
+    }
 }
 
-fn state_two<'a>(
-    x: &'a [f64; 4],
-    y: &'a [f64; 4],
-    g: &'a [[f64; 4]; 4],
-    next: &'a [f64; 4],
-) -> [f64; 4]
-    ensures { λ v. ⌜ v ≡ padRow (stateMoved 2 (cut 2 (now (x .entry))) (cut 2 (now (y .entry))) (used 2 2 (now (g .entry))) (cut 2 (now (next .entry)))) ⌝ }
+// P Fᵀ × W.
+fn gain_two(p: Two, f: Two, w: Two) -> Two
+    ensures { λ g. ⌜ matrixOf g ≡ gain 2 2 (matrixOf p) (matrixOf f) (matrixOf w) ⌝ }
 {
-    let g0 = g[0];
-    let g1 = g[1];
-    let d0 = next[0] - y[0];
-    let d1 = next[1] - y[1];
-    let v0 = x[0] + (0.0 + g0[0] * d0 + g0[1] * d1);
-    let v1 = x[1] + (0.0 + g1[0] * d0 + g1[1] * d1);
-    [v0, v1, 0.0, 0.0]
+    let s0 = 0.0 + p.a * f.a + p.b * f.b;
+    let s1 = 0.0 + p.a * f.c + p.b * f.d;
+    let t0 = 0.0 + p.c * f.a + p.d * f.b;
+    let t1 = 0.0 + p.c * f.c + p.d * f.d;
+    Two {
+        a: 0.0 + s0 * w.a + s1 * w.c,
+        b: 0.0 + s0 * w.b + s1 * w.d,
+        c: 0.0 + t0 * w.a + t1 * w.c,
+        d: 0.0 + t0 * w.b + t1 * w.d,
+    }
 }
 
-fn covariance_two<'a>(
-    c: &'a [[f64; 4]; 4],
-    q: &'a [[f64; 4]; 4],
-    g: &'a [[f64; 4]; 4],
-    next: &'a [[f64; 4]; 4],
-) -> [[f64; 4]; 4]
-    ensures { λ v. ⌜ v ≡ pad (covarianceMoved 2 (used 2 2 (now (c .entry))) (used 2 2 (now (q .entry))) (used 2 2 (now (g .entry))) (used 2 2 (now (next .entry)))) ⌝ }
+// x + G d, and P + (G D) Gᵀ, with d and D the next slot's smoothed pair less the predicted pair y.
+fn corrected_two(e: Pair, y: Pair, g: Two, next: Pair) -> Pair
+    ensures { λ v. ⌜ estimateOf v ≡ smoothedPair 2 (slotOf e y) (matrixOf g) (estimateOf next) ⌝ }
 {
-    let c0 = c[0];
-    let c1 = c[1];
-    let q0 = q[0];
-    let q1 = q[1];
-    let g0 = g[0];
-    let g1 = g[1];
-    let n0 = next[0];
-    let n1 = next[1];
-    let d00 = n0[0] - q0[0];
-    let d01 = n0[1] - q0[1];
-    let d10 = n1[0] - q1[0];
-    let d11 = n1[1] - q1[1];
-    let e00 = 0.0 + g0[0] * d00 + g0[1] * d10;
-    let e01 = 0.0 + g0[0] * d01 + g0[1] * d11;
-    let e10 = 0.0 + g1[0] * d00 + g1[1] * d10;
-    let e11 = 0.0 + g1[0] * d01 + g1[1] * d11;
-    let v00 = c0[0] + (0.0 + e00 * g0[0] + e01 * g0[1]);
-    let v01 = c0[1] + (0.0 + e00 * g1[0] + e01 * g1[1]);
-    let v10 = c1[0] + (0.0 + e10 * g0[0] + e11 * g0[1]);
-    let v11 = c1[1] + (0.0 + e10 * g1[0] + e11 * g1[1]);
-    let z = [0.0; 4];
-    let r0 = [v00, v01, 0.0, 0.0];
-    let r1 = [v10, v11, 0.0, 0.0];
-    [r0, r1, z, z]
+    let p = e.p;
+    let q = y.p;
+    let m = next.p;
+    let d0 = next.x0 - y.x0;
+    let d1 = next.x1 - y.x1;
+    let a = m.a - q.a;
+    let b = m.b - q.b;
+    let c = m.c - q.c;
+    let d = m.d - q.d;
+    let s0 = 0.0 + g.a * a + g.b * c;
+    let s1 = 0.0 + g.a * b + g.b * d;
+    let t0 = 0.0 + g.c * a + g.d * c;
+    let t1 = 0.0 + g.c * b + g.d * d;
+    Pair {
+        x0: e.x0 + (0.0 + g.a * d0 + g.b * d1),
+        x1: e.x1 + (0.0 + g.c * d0 + g.d * d1),
+        p: Two {
+            a: p.a + (0.0 + s0 * g.a + s1 * g.b),
+            b: p.b + (0.0 + s0 * g.c + s1 * g.d),
+            c: p.c + (0.0 + t0 * g.a + t1 * g.b),
+            d: p.d + (0.0 + t0 * g.c + t1 * g.d),
+        },
+    }
 }
 
-// A slot of size 2 is 12 numbers, and its predicted pair begins at number 6.
-fn step_two<'a>(
-    slots: &'a [f64],
-    k: usize,
-    f: &'a [[f64; 4]; 4],
-    x: &mut [f64; 4],
-    p: &mut [[f64; 4]; 4],
-) -> Status
-    requires { ⌜ k + 12 ≤ length (now slots) ⌝ }
-    ensures { λ s. ⌜ Stepped 2 (used 2 2 (now (f .entry))) (slotFrom 2 (now (slots .entry)) k) (now (x .entry)) (now (p .entry)) (now (x .exit)) (now (p .exit)) s ⌝ }
+// The slot of the filtered pair e and the predicted pair y, with the transition f, before a slot whose smoothed pair is next.
+fn smooth_two(e: Pair, y: Pair, f: Two, next: Pair) -> PairSmoothed
+    ensures { λ v. ⌜ (v .answer, estimateOf (v .pair)) ≡ smoothLeft (λ s. s) (estimateOf next) (smoothSlot 2 (matrixOf f) (slotOf e y) (estimateOf next)) ⌝ }
 {
-    let q = buffer::matrix_at(slots, k + 6 + 2, 2, 2);
-    let w = inverse::inverse_of(&q, 2);
-    let status = w.status;
+    let q = y.p;
+    let p = e.p;
+    let inverted = inverse::inverse_two(q.a, q.b, q.c, q.d);
+    let status = inverted.status;
     match status {
         Status::Done => {
-            let rows = matrix::rows_of(w);
-            let c = buffer::matrix_at(slots, k + 2, 2, 2);
-            let g = gain_two(&c, f, &rows);
-            let state = buffer::vector_at(slots, k, 2);
-            let y = buffer::vector_at(slots, k + 6, 2);
-            *x = state_two(&state, &y, &g, x);
-            *p = covariance_two(&c, &q, &g, p);
-            Status::Done
+            let w = inverted.cells;
+            let g = gain_two(
+                p,
+                f,
+                Two {
+                    a: w[0],
+                    b: w[1],
+                    c: w[2],
+                    d: w[3],
+                },
+            );
+            PairSmoothed {
+                answer: Status::Done,
+                pair: corrected_two(e, y, g, next),
+            }
         }
-        Status::Refused(number) => Status::Refused(number),
+        Status::Refused(number) => PairSmoothed {
+            answer: Status::Refused(number),
+            pair: next,
+        },
     }
 }
 
 // ---- a slot of any size, given by the number k at which it begins
 
-// The same as for 1 and 2, for any size.
+// x and p, the next slot's smoothed pair, become this slot's. Refused with 3: inversion rejects the slot's predicted covariance.
 fn step<'a>(
     slots: &'a [f64],
     k: usize,
-    n: usize,
+    n: Size,
     f: &'a [[f64; 4]; 4],
     x: &mut [f64; 4],
     p: &mut [[f64; 4]; 4],
 ) -> Status
-    requires { ⌜ (sized n ≡ true) × (k + stride n ≤ length (now slots)) ⌝ }
-    ensures { λ s. ⌜ Stepped n (used n n (now (f .entry))) (slotFrom n (now (slots .entry)) k) (now (x .entry)) (now (p .entry)) (now (x .exit)) (now (p .exit)) s ⌝ }
+    requires { ⌜ k + stride (count n) ≤ length (now slots) ⌝ }
+    ensures { λ t. ⌜ (t, (now (x .exit), now (p .exit))) ≡ smoothLeft arraysOf (now (x .entry), now (p .entry)) (smoothSlot (count n) (part n n (now (f .entry))) (slotFrom (count n) (now (slots .entry)) k) (estimateIn n (now (x .entry)) (now (p .entry)))) ⌝ }
 {
-    if n == 1 {
-        return step_one(slots, k, f, x, p);
-    }
-    if n == 2 {
-        return step_two(slots, k, f, x, p);
-    }
-    let q = buffer::matrix_at(slots, k + (n + n * n) + n, n, n);
+    let size = number(n);
+    let predicted = k + (size + size * size);
+    let q = layout::matrix_at(slots, predicted + size, n, n);
     let w = inverse::inverse_of(&q, n);
     let status = w.status;
     match status {
         Status::Done => {
             let rows = matrix::rows_of(w);
-            let c = buffer::matrix_at(slots, k + n, n, n);
-            let g = kalman_step::gain(&c, f, &rows, n, n);
-            let state = buffer::vector_at(slots, k, n);
-            let y = buffer::vector_at(slots, k + (n + n * n), n);
-            *x = moved_state(&state, &y, &g, x, n);
-            *p = moved_covariance(&c, &q, &g, p, n);
+            let c = layout::matrix_at(slots, k + size, n, n);
+            let g = steps::gain(&c, f, &rows, n, n);
+            let state = layout::vector_at(slots, k, n);
+            let y = layout::vector_at(slots, predicted, n);
+            let dx = kernel::vector_difference(*x, y, n);
+            let dp = kernel::difference(p, &q, n, n);
+            *x = steps::corrected_state(&g, &dx, &state, n, n);
+            *p = steps::propagated(&g, &dp, &c, n, n);
             Status::Done
         }
         Status::Refused(number) => Status::Refused(number),
     }
 }
 
-// ---- all slots
+fn put_two(out: &mut [f64], k: usize, e: Pair)
+    requires { ⌜ k + 6 ≤ length (now out) ⌝ }
+    ensures { λ u. ⌜ now (out .exit) ≡ placed k (pairNumbers (estimateOf e)) (now (out .entry)) ⌝ }
+{
+    let p = e.p;
+    out[k] = e.x0;
+    out[k + 1] = e.x1;
+    out[k + 2] = p.a;
+    out[k + 3] = p.b;
+    out[k + 4] = p.c;
+    out[k + 5] = p.d;
+}
 
-// The smoothed pairs of the first count slots into out, pair k from number k (n + n²) on. Refused with 3:
-// inversion rejects the predicted covariance of a slot before the last.
-fn back<'a>(
+// As smooth_slots, at two states: the pair of the slot after stays in numbers.
+fn smooth_slots_two<'a>(
     slots: &'a [f64],
-    n: usize,
-    count: usize,
+    stored: usize,
     f: &'a [[f64; 4]; 4],
     out: &mut [f64],
 ) -> Status
-    requires { ⌜ (sized n ≡ true) × (1 ≤ count) × (count ≤ 64) × (count * stride n ≤ length (now slots)) × (count * pairLength n ≤ length (now out)) ⌝ }
-    ensures { λ s. ⌜ Passed (smoothed n (used n n (now (f .entry))) (table count (λ k. slotAt n (now (slots .entry)) k))) (now (out .entry)) (now (out .exit)) s ⌝ }
+    requires { ⌜ (1 ≤ stored) × (stored ≤ 64) × (stored * 12 ≤ length (now slots)) × (stored * 6 ≤ length (now out)) ⌝ }
+    ensures { λ s. ⌜ Passed (smoothSlots 2 (part Size.Two Size.Two (now (f .entry))) (slotsOf 2 (now (slots .entry)) stored)) (now (out .entry)) (now (out .exit)) s ⌝ }
 {
-    let stride = stride_of(n);
-    let pair = n + n * n;
-    let mut k = count - 1;
-    let mut x = buffer::vector_at(slots, k * stride, n);
-    let mut p = buffer::matrix_at(slots, k * stride + n, n, n);
+    let t = Two {
+        a: f[0][0],
+        b: f[0][1],
+        c: f[1][0],
+        d: f[1][1],
+    };
+    let mut k = stored - 1;
+    let mut e = pair_at(slots, k * 12);
     while 0 < k {
-        buffer::put_pair(out, k * pair, x, &p, n);
+        put_two(out, k * 6, e);
+        k -= 1;
+        let s = smooth_two(pair_at(slots, k * 12), pair_at(slots, k * 12 + 6), t, e);
+        let status = s.answer;
+        match status {
+            Status::Done => {
+                e = s.pair;
+            }
+            Status::Refused(number) => {
+                return Status::Refused(number);
+            }
+        }
+    }
+    put_two(out, 0, e);
+    Status::Done
+}
+
+// ---- all slots
+
+// The smoothed pairs of the stored slots into out, pair k from number k (n + n²) on. Refused with 3: inversion rejects the
+// predicted covariance of a slot before the last.
+fn smooth_slots<'a>(
+    slots: &'a [f64],
+    n: Size,
+    stored: usize,
+    f: &'a [[f64; 4]; 4],
+    out: &mut [f64],
+) -> Status
+    requires { ⌜ (1 ≤ stored) × (stored ≤ 64) × (stored * stride (count n) ≤ length (now slots)) × (stored * pairLength (count n) ≤ length (now out)) ⌝ }
+    ensures { λ s. ⌜ Passed (smoothSlots (count n) (part n n (now (f .entry))) (slotsOf (count n) (now (slots .entry)) stored)) (now (out .entry)) (now (out .exit)) s ⌝ }
+{
+    let size = number(n);
+    if size == 2 {
+        return smooth_slots_two(slots, stored, f, out);
+    }
+    let pair = size + size * size;
+    let stride = 2 * pair;
+    let mut k = stored - 1;
+    let mut x = layout::vector_at(slots, k * stride, n);
+    let mut p = layout::matrix_at(slots, k * stride + size, n, n);
+    while 0 < k {
+        layout::put_pair(out, k * pair, x, &p, n);
         k -= 1;
         let status = step(slots, k * stride, n, f, &mut x, &mut p);
         match status {
@@ -305,7 +290,7 @@ fn back<'a>(
             }
         }
     }
-    buffer::put_pair(out, 0, x, &p, n);
+    layout::put_pair(out, 0, x, &p, n);
     Status::Done
 }
 
@@ -322,10 +307,10 @@ fn is_smoothable(len: usize, numbers: usize, n: usize, room: usize, count: usize
     }
 }
 
-// The smoothed pairs of the first count slots into output, state and then covariance by rows, and +0 past the
-// count. The pairs are made in a buffer of the largest size: a refusal leaves the output unchanged. Refused with
-// 1: a size, a count above room, a buffer that is not just room slots or pairs long; with 2: no slot; with 3:
-// inversion rejects the predicted covariance of a slot before the last.
+// The smoothed pairs of the first count slots into output, state and then covariance by rows, and +0 past the count. The pairs
+// are made in a buffer of the largest size: a refusal leaves the output unchanged. Refused with 1: a size, a count above room, a
+// buffer that is not just room slots or pairs long; with 2: no slot; with 3: inversion rejects the predicted covariance of a slot
+// before the last.
 pub fn smooth(
     slots: &[f64],
     n: usize,
@@ -334,17 +319,18 @@ pub fn smooth(
     transition: [[f64; 4]; 4],
     output: &mut [f64],
 ) -> Status
-    ensures { λ s. ⌜ left s (now (output .exit)) ≡ smoothOf n room count (now (slots .entry)) transition (now (output .entry)) ⌝ }
+    ensures { λ s. ⌜ (s, now (output .exit)) ≡ smoothOf n room count (now (slots .entry)) transition (now (output .entry)) ⌝ }
 {
     if is_smoothable(slots.len(), output.len(), n, room, count) {
         if count == 0 {
             return Status::Refused(2);
         }
         let mut pairs = [0.0; 1280];
-        let status = back(slots, n, count, &transition, &mut pairs[..]);
+        let status = smooth_slots(slots, size_of(n), count, &transition, &mut pairs[..]);
         match status {
             Status::Done => {
-                buffer::copy_front(output, &pairs[..]);
+                let end = output.len();
+                layout::put_slice(output, 0, &pairs[..end]);
                 Status::Done
             }
             Status::Refused(number) => Status::Refused(number),

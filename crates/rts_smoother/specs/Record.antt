@@ -9,15 +9,16 @@ use Rattle.answer.specs.declared.Status.{Status}
 use Rattle.answer.specs.declared.Status.the-variants.{Done, Refused}
 use Rattle.matrix.specs.declared.TestResult.{TestResult}
 use Rattle.answer.specs.Answer.{Answer, refused, answered, refused-if, where-sized, if-sized}
-use Rattle.matrix.specs.Array.{padRow, pad}
-use Rattle.matrix.specs.Kernel.{flatOfRows}
-use Rattle.matrix.specs.Result.{sized, asTest}
-use Rattle.kalman_step.specs.Step.{estimateIn, estimateFrom}
-use Rattle.buffer.specs.Buffer.{placed, Left, left}
+use Rattle.answer.specs.Outcome.{into, handed}
+use Rattle.answer.specs.Told.{statusOf}
+use Rattle.algebra.specs.Array.{cut, used, usedFlat, padRow, pad, flatOfRows}
+use Rattle.matrix.specs.Size.{sized}
+use Rattle.matrix.specs.Result.{asTest}
+use Rattle.filtering.specs.Filter.{estimate}
+use Rattle.layout.specs.Layout.{placed, stride}
 use Rattle.smoothing.specs.Smoother.{Slot}
-use Rattle.rts_pass.specs.Buffer.{stride, slotNumbers, counted, buffered}
-use Rattle.kalman_step.specs.Kalman.{estimate}
-use Rattle.rts_pass.specs.Pass.{smoothInto, writtenIn}
+use Rattle.rts_pass.specs.Buffer.{slotNumbers, counted, buffered}
+use Rattle.rts_pass.specs.Pass.{smoothInto, smoothLeft}
 use Rattle.rts_smoother.specs.declared.FilteredState.{FilteredState}
 use Rattle.rts_smoother.specs.declared.StateResult.{StateResult}
 use Rattle.rts_smoother.specs.declared.RtsSmoother.{RtsSmoother}
@@ -30,12 +31,12 @@ use Rattle.rts_smoother.specs.declared.CountResult.the-variants as Count
 -- the slot in a record, and in arrays of rows with the size n beside them
 abbrev pub slotOf : FilteredState → Slot
 slotOf s = record {
-  filtered = estimateIn (s .n) (s .x) (s .p);
-  predicted = estimateIn (s .n) (s .«x_pred») (s .«p_pred»);
+  filtered = estimate (cut (s .n) (s .x)) (usedFlat (s .n) (s .n) (s .p));
+  predicted = estimate (cut (s .n) (s .«x_pred»)) (usedFlat (s .n) (s .n) (s .«p_pred»));
 }
 
 abbrev pub slotOfRows : ℕ → List Float → List (List Float) → List Float → List (List Float) → Slot
-slotOfRows n x p y q = record { filtered = estimateFrom n x p; predicted = estimateFrom n y q }
+slotOfRows n x p y q = record { filtered = estimate (cut n x) (used n n p); predicted = estimate (cut n y) (used n n q) }
 
 -- the record of a slot; a matrix stands flat, +0 outside its sizes
 abbrev pub recordOf : ℕ → Slot → FilteredState
@@ -63,8 +64,7 @@ abbrev pub fits : RtsSmoother → Bool
 fits m = counted (m .n) (m .room) (m .count)
 
 abbrev pub stored : RtsSmoother → Answer RtsSmoother → Stored
-stored m (refused k) = record { answer = Refused k; smoother = m }
-stored m (answered o) = record { answer = Done; smoother = o }
+stored m a = let w = handed statusOf (λ o. o) m (into a) in record { answer = w .0; smoother = w .1 }
 
 -- no slot is stored; beside a refusal there is no room
 abbrev pub newOf : ℕ → ℕ → Stored
@@ -89,18 +89,15 @@ isEmptyOf m = asTest (where-sized (fits m) (eqb (m .count) 0))
 unfoldable pub storable : ℕ → ℕ → ℕ → ℕ → ℕ → Bool
 storable m n T c size = buffered m n T c && eqb n size
 
--- the buffer with one slot more: refused with 1 for the sizes, with 5 where the count is T
-abbrev pub storeForward : RtsSmoother → List Float → FilteredState → Answer (List Float)
+-- the count and the buffer with one slot more: refused with 1 for the sizes, with 5 where the count is T
+abbrev pub storeForward : RtsSmoother → List Float → FilteredState → Answer (ℕ × List Float)
 storeForward m b s =
     if-sized (storable (length b) (m .n) (m .room) (m .count) (s .n))
-    (refused-if (leb (m .room) (m .count)) 5 (placed (m .count * stride (m .n)) (slotNumbers (slotOf s)) b))
+    (refused-if (leb (m .room) (m .count)) 5 (m .count + 1, placed (m .count * stride (m .n)) (slotNumbers (slotOf s)) b))
 
-abbrev pub storedIn : RtsSmoother → List Float → Answer (List Float) → Left Stored (List Float)
-storedIn m b (refused k) = left (record { answer = Refused k; smoother = m }) b
-storedIn m b (answered l) = left (record { answer = Done; smoother = smoother (m .n) (m .room) (m .count + 1) }) l
-
-abbrev pub storeOf : RtsSmoother → List Float → FilteredState → Left Stored (List Float)
-storeOf m b s = storedIn m b (storeForward m b s)
+-- the status, the smoother and the buffer
+abbrev pub storeOf : RtsSmoother → List Float → FilteredState → Status × (RtsSmoother × List Float)
+storeOf m b s = handed statusOf (λ w. (smoother (m .n) (m .room) (w .0), w .1)) (m, b) (into (storeForward m b s))
 
 -- why slot k cannot be handed out: 1 for the sizes, 6 where k is not below the count, 0 for neither
 abbrev pub getStateRefusal : RtsSmoother → List Float → ℕ → ℕ
@@ -111,5 +108,5 @@ abbrev pub getState : RtsSmoother → List Float → ℕ → List Float
 getState m b k = cond (eqb (getStateRefusal m b k) 0) (take (stride (m .n)) (drop (k * stride (m .n)) b)) []
 
 -- the smoother's stored slots, with a transition of size k; refused with 1 also where that is not the smoother's
-abbrev pub smoothWith : RtsSmoother → List Float → List (List Float) → ℕ → List Float → Left Status (List Float)
-smoothWith m b f k o = writtenIn o (if-sized (eqb (m .n) k) (smoothInto (m .n) (m .room) (m .count) b f o))
+abbrev pub smoothWith : RtsSmoother → List Float → List (List Float) → ℕ → List Float → Status × List Float
+smoothWith m b f k o = smoothLeft (λ l. l) o (if-sized (eqb (m .n) k) (smoothInto (m .n) (m .room) (m .count) b f o))

@@ -5,13 +5,14 @@ ghost use mathlib.Core.Path.{_≡_};
 ghost use mathlib.Core.Bool.{true};
 ghost use Prim.Native.Nat.{_+_, _≤_};
 ghost use lib.ListN.{length};
-ghost use Rattle.matrix.specs.Result.{sized};
-ghost use Rattle.buffer.specs.Buffer.{placed, left};
-ghost use Rattle.rts_pass.specs.Buffer.{stride, slotNumbers};
+ghost use Rattle.matrix.specs.Size.{sized};
+ghost use Rattle.layout.specs.Layout.{placed, stride};
+ghost use Rattle.rts_pass.specs.Buffer.{slotNumbers};
 ghost use Rattle.rts_smoother.specs.Record.{slotOf, storable, stateFrom, newOf, resetOf, lenOf, isEmptyOf, storeOf, getStateRefusal, getState, smoothWith};
 use answer::Status;
 use matrix::TestResult;
 use matrix::kernel;
+use matrix::size_of;
 use rts_pass::is_buffered;
 use rts_pass::is_counted;
 use rts_pass::stride_of;
@@ -66,10 +67,11 @@ fn put_slot(b: &mut [f64], k: usize, s: FilteredState)
     ensures { λ r. ⌜ now (b .exit) ≡ placed k (slotNumbers (slotOf s)) (now (b .entry)) ⌝ }
 {
     let n = s.n;
+    let size = size_of(n);
     let p = kernel::from_flat(&s.p);
     let q = kernel::from_flat(&s.p_pred);
-    buffer::put_pair(b, k, s.x, &p, n);
-    buffer::put_pair(b, k + (n + n * n), s.x_pred, &q, n);
+    layout::put_pair(b, k, s.x, &p, size);
+    layout::put_pair(b, k + (n + n * n), s.x_pred, &q, size);
 }
 
 impl FilteredState {
@@ -84,14 +86,15 @@ impl FilteredState {
         ensures { λ r. ⌜ r ≡ stateFrom n x p «x_pred» «p_pred» ⌝ }
     {
         if matrix::is_size(n) {
+            let size = size_of(n);
             StateResult {
                 status: Status::Done,
                 state: FilteredState {
                     n,
-                    x: matrix::kept(x, n),
-                    p: kernel::flat_part(&p, n, n),
-                    x_pred: matrix::kept(x_pred, n),
-                    p_pred: kernel::flat_part(&p_pred, n, n),
+                    x: kernel::leading(x, size),
+                    p: kernel::flat_part(&p, size, size),
+                    x_pred: kernel::leading(x_pred, size),
+                    p_pred: kernel::flat_part(&p_pred, size, size),
                 },
             }
         } else {
@@ -131,7 +134,7 @@ impl RtsSmoother {
         }
     }
 
-    // No slot is stored any more; the buffer is not touched. Refused with 1: a size of the record, or its count.
+    // Afterwards no slot is stored; the buffer is not touched. Refused with 1: a size of the record, or its count.
     pub fn reset(self) -> Stored
         ensures { λ r. ⌜ r ≡ resetOf self ⌝ }
     {
@@ -175,7 +178,7 @@ impl RtsSmoother {
     // One slot more, after those stored. Refused with 1: a size or the count of the record, a slot of another
     // size, a buffer that is not just room slots long; with 5: the count is the room. Then nothing changes.
     pub fn store_forward(self, slots: &mut [f64], state: FilteredState) -> Stored
-        ensures { λ r. ⌜ left r (now (slots .exit)) ≡ storeOf self (now (slots .entry)) state ⌝ }
+        ensures { λ r. ⌜ (r .answer, (r .smoother, now (slots .exit))) ≡ storeOf self (now (slots .entry)) state ⌝ }
     {
         let n = self.n;
         let count = self.count;
@@ -238,7 +241,7 @@ impl RtsSmoother {
         k: usize,
         output: &mut [f64],
     ) -> Status
-        ensures { λ s. ⌜ left s (now (output .exit)) ≡ smoothWith self (now (slots .entry)) transition k (now (output .entry)) ⌝ }
+        ensures { λ s. ⌜ (s, now (output .exit)) ≡ smoothWith self (now (slots .entry)) transition k (now (output .entry)) ⌝ }
     {
         if self.n == k {
             rts_pass::smooth(slots, self.n, self.room, self.count, transition, output)

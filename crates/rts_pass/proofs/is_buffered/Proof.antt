@@ -4,8 +4,8 @@ use Prim.Native.Nat.{ℕ, _*_, _<_, _^_}
 use native.Mathlib.Omega.{arith}
 use mathlib.Core.Bool.{Bool, _&&_}
 use lib.Dec.{eqb}
-use borrow.Author.Needs.{needs}
-use Rattle.rts_pass.specs.Buffer.{stride, buffered}
+use Rattle.layout.specs.Layout.{stride}
+use Rattle.rts_pass.specs.Buffer.{buffered}
 use Rattle.rts_pass.proofs.Sizes.{Counted, counted-of, stride-is, buffer-small}
 use Rattle.rts_pass.proofs.is_buffered.Statement.{statement}
 use Rattle.rts_pass.proofs.is_buffered.Tie as tie
@@ -14,13 +14,13 @@ sizes : (c : tie.Then1) → let a = c .before .before .args in Counted (a .n) (a
 sizes c = counted-of _ _ _ (sym (c .before .is-counted .ensures) ∙ c .if1 .taken)
 
 stride-here : (c : tie.After-stride-of) → c .stride-of .result ≡ stride (c .before .before .before .args .n)
-stride-here c = stride-is (sizes (c .before) .size) (c .stride-of .ensures)
+stride-here c = stride-is _ (sizes (c .before) .size) (c .stride-of .ensures)
 
 mul-result : tie.Need-mul-result
 mul-result c =
     let s = sizes (c .before) in
     let a = c .before .before .before .args in
-    record { fits = subst⁻¹ (λ (r : ℕ). a .room * r < 2 ^ 64) (stride-here c) (omega (arith, buffer-small (s .size .most) (s .few))) }
+    record { fits = subst⁻¹ (λ (r : ℕ). a .room * r < 2 ^ 64) (stride-here c) (omega (arith, buffer-small (s .bounds .most) (s .few))) }
 
 returns : tie.Need-returns
 unfolding buffered
@@ -36,4 +36,4 @@ returns-2 c =
     ap (λ (t : Bool). t && eqb (a .len) (a .room * stride (a .n))) (sym (c .if1 .left) ∙ c .before .is-counted .ensures)
 
 pub is-buffered-spec : {M : Type 1} → statement M
-is-buffered-spec = tie.close (tie.spec (λ c κs. search needs) (λ c κs. search needs) mul-result returns returns-2)
+is-buffered-spec = tie.close (tie.spec (λ c κs. tt) (λ c κs. tt) mul-result returns returns-2)

@@ -1,6 +1,5 @@
 -- `is_counted` meets its contract.
 use Rattle.rts_pass.specs.Buffer.{counted}
-use borrow.Author.Needs.{needs}
 use Rattle.rts_pass.proofs.is_counted.Statement.{statement}
 use Rattle.rts_pass.proofs.is_counted.Tie as tie
 
@@ -9,4 +8,4 @@ unfolding counted
 returns c = cc
 
 pub is-counted-spec : {M : Type 1} → statement M
-is-counted-spec = tie.close (tie.spec (λ c κs. search needs) (λ c κs. search needs) (λ c κs. search needs) (λ c κs. search needs) returns)
+is-counted-spec = tie.close (tie.spec (λ c κs. tt) (λ c κs. tt) (λ c κs. tt) (λ c κs. tt) returns)

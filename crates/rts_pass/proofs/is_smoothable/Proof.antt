@@ -4,8 +4,7 @@ use mathlib.Core.Bool.{Bool, _&&_}
 use Prim.Native.Nat.{_*_}
 use native.Mathlib.Omega.{arith}
 use lib.Dec.{eqb}
-use borrow.Author.Needs.{needs}
-use Rattle.rts_pass.specs.Buffer.{pairLength}
+use Rattle.layout.specs.Layout.{pairLength}
 use Rattle.rts_pass.specs.Pass.{smoothable}
 use Rattle.rts_pass.proofs.Sizes.{Counted, buffered-of, square-small, output-small}
 use Rattle.rts_pass.proofs.is_smoothable.Statement.{statement}
@@ -30,9 +29,9 @@ pub is-smoothable-spec : {M : Type 1} → statement M
 is-smoothable-spec =
     tie.close
     (tie.spec
-    (λ c κs. search needs)
-    (λ c. omega (arith, square-small (sizes c .size .most)))
-    (λ c. omega (arith, square-small (sizes c .size .most), sizes c .size))
-    (λ c. omega (arith, output-small (sizes c .size .most) (sizes c .few)))
+    (λ c κs. tt)
+    (λ c. omega (arith, square-small (sizes c .bounds .most)))
+    (λ c. omega (arith, square-small (sizes c .bounds .most), sizes c .bounds))
+    (λ c. omega (arith, output-small (sizes c .bounds .most) (sizes c .few)))
     returns
     returns-2)

@@ -1,78 +1,69 @@
--- `step` meets its contract: by the slot's size, and else one kernel after another is the definition of a slot's part of the pass.
-use mathlib.Core.Path.{subst}
-use Prim.Native.Nat.{ℕ, _+_, _≤_}
+-- `step` meets its contract: one kernel after another, by what the inversion answers.
+use Prim.Native.Nat.{_+_, _*_, _≤_, ℕ}
+use native.Mathlib.Omega.{arith}
+use mathlib.Core.Path.{ap}
 use lib.ListN.{length}
 use borrow.Author.Needs.{needs}
-use Rattle.matrix.proofs.Results.{size-of, shaped-true}
-use Rattle.matrix.proofs.Kernels.{rows-sized}
-use Rattle.rts_pass.specs.Buffer.{stride}
-use Rattle.rts_pass.proofs.Steps.{step-sized, step-done, step-refused}
+use Rattle.rts_pass.proofs.Steps.{step-done, step-refused}
 use Rattle.rts_pass.proofs.step.Statement.{statement}
 use Rattle.rts_pass.proofs.step.Tie as tie
 
-step-one-requires : tie.Need-step-one-requires
-step-one-requires c κs =
-    let s = c .before .before .before .before in
-    subst (λ (m : ℕ). s .args .k + stride m ≤ length (s .args .slots .now)) (c .before .before .if1 .taken) (s .pre .1)
+-- the predicted pair lies within the buffer
+inside : (c : tie.After-number) → let s = c .number .result in let a = c .before .before .args in a .k + (s + s * s) + (s + s * s) ≤ length (a .slots .now)
+inside c = omega (arith, c .number .ensures, ap (λ (m : ℕ). m * m) (c .number .ensures), c .before .before .pre)
 
 returns : tie.Need-returns
-returns c = step-sized _ _ _ (c .before .before .before .if1 .taken) (c .step-one .ensures)
-
-step-two-requires : tie.Need-step-two-requires
-step-two-requires c κs =
-    let s = c .before .before .before .before .before in
-    subst (λ (m : ℕ). s .args .k + stride m ≤ length (s .args .slots .now)) (c .before .before .if2 .taken) (s .pre .1)
+returns c =
+    let st = c .before .before .before .before in
+    let dp = st .before .before .before .before in
+    let dx = dp .before .before .before in
+    let v = dx .before .before in
+    let u = v .before in
+    let g = u .before in
+    let p = g .before .before .before in
+    let r = p .before in
+    let t = r .before in
+    let w = t .before .before in
+    let q = w .before .before in
+    let m = q .before in
+    let s = m .before .before in
+    let a = s .args in
+    step-done (a .n) (a .slots .now) (a .k) (s .pre) (a .f .now) (a .x .now) (a .p .now) (m .number .ensures) (q .matrix-at .ensures) (w .inverse-of .ensures)
+    (t .enum-told .given .1) (r .rows-of .ensures) (p .matrix-at2 .ensures) (g .gain .ensures) (u .vector-at .ensures) (v .vector-at2 .ensures)
+    (dx .vector-difference .ensures) (dp .difference .ensures) (st .corrected-state .ensures) (c .propagated .ensures)
 
 returns-2 : tie.Need-returns-2
-returns-2 c = step-sized _ _ _ (c .before .before .before .if2 .taken) (c .step-two .ensures)
-
-returns-3 : tie.Need-returns-3
-returns-3 c =
-    let state = c .before .before .before .before .before in
-    let y = state .before .before .before .before .before in
-    let gain = y .before .before in
-    let p = gain .before .before .before in
-    let told = p .before .before in
-    let inverse = told .before .before in
-    let q = inverse .before .before in
-    let s = q .before .before .before .before in
-    let N = size-of _ (s .pre .0) in
-    step-done N (s .args .slots .now) (s .args .k) (s .pre .1) _ (q .matrix-at .ensures) (inverse .inverse-of .ensures) _ _ (told .enum-told .given .1) (p .before .rows-of .ensures)
-    (p .matrix-at2 .ensures) (y .before .vector-at .ensures) (y .vector-at2 .ensures) (rows-sized _ (shaped-true N N) (gain .gain .ensures)) (state .moved-state .ensures) (c .moved-covariance .ensures)
-
-returns-4 : tie.Need-returns-4
-returns-4 c =
-    let inverse = c .before .before .before in
-    let q = inverse .before .before in
-    let s = q .before .before .before .before in
-    step-refused (size-of _ (s .pre .0)) (s .args .slots .now) (s .args .k) (s .pre .1) _ (q .matrix-at .ensures) (inverse .inverse-of .ensures) _ _ _ _ (c .before .status .given .1)
+returns-2 c =
+    let t = c .before in
+    let w = t .before .before in
+    let q = w .before .before in
+    let m = q .before in
+    let s = m .before .before in
+    let a = s .args in
+    step-refused (a .n) (a .slots .now) (a .k) (s .pre) (a .f .now) (a .x .now) (a .p .now) (m .number .ensures) (q .matrix-at .ensures) (w .inverse-of .ensures) (t .status .given .1)
 
 pub step-spec : {M : Type 1} → statement M
 step-spec =
     tie.close
     (tie.spec
-    step-one-requires
+    (λ c κs. tt)
+    (λ c. omega (arith, inside c))
+    (λ c. omega (arith, inside c))
+    (λ c. omega (arith, inside c))
+    (λ c. omega (arith, inside c))
+    (λ c κs. tt)
+    (λ c κs. tt)
+    (λ c. search needs)
+    (λ c κs. tt)
+    (λ c. search needs)
+    (λ c κs. tt)
+    (λ c κs. tt)
+    (λ c κs. tt)
+    (λ c κs. tt)
+    (λ c κs. tt)
+    (λ c κs. tt)
+    (λ c κs. tt)
+    (λ c κs. tt)
+    (λ c. search needs)
     returns
-    step-two-requires
-    returns-2
-    (λ c. search needs)
-    (λ c. search needs)
-    (λ c. search needs)
-    (λ c. search needs)
-    (λ c κs. search needs)
-    (λ c κs. search needs)
-    (λ c. search needs)
-    (λ c κs. search needs)
-    (λ c. search needs)
-    (λ c κs. search needs)
-    (λ c κs. search needs)
-    (λ c κs. search needs)
-    (λ c. search needs)
-    (λ c. search needs)
-    (λ c. search needs)
-    (λ c κs. search needs)
-    (λ c κs. search needs)
-    (λ c κs. c .before .before .before .before .before .before .before .before .before .before .before .before .before .before .before .before .before .before .before .before .before .before .before .before .pre .0)
-    (λ c. search needs)
-    returns-3
-    returns-4)
+    returns-2)

@@ -1,16 +1,15 @@
 -- `stride_of` meets its contract: a size is at most 4, so nothing wraps.
 use mathlib.Core.Path.{sym, _∙_}
 use native.Mathlib.Omega.{arith}
-use borrow.Author.Needs.{needs}
 use Rattle.answer.proofs.Choice.{cond-true, cond-false}
-use Rattle.matrix.proofs.Results.{Size, size-of}
-use Rattle.rts_pass.specs.Buffer.{stride}
+use Rattle.matrix.proofs.Sizes.{Bounds, bounds-of}
+use Rattle.layout.specs.Layout.{stride}
 use Rattle.rts_pass.proofs.Sizes.{square-small}
 use Rattle.rts_pass.proofs.stride_of.Statement.{statement}
 use Rattle.rts_pass.proofs.stride_of.Tie as tie
 
-size : (c : tie.Then1) → Size (c .before .before .args .n)
-size c = size-of _ (sym (c .before .is-size .ensures) ∙ c .if1 .taken)
+size : (c : tie.Then1) → Bounds (c .before .before .args .n)
+size c = bounds-of _ (sym (c .before .is-size .ensures) ∙ c .if1 .taken)
 
 returns : tie.Need-returns
 returns c = sym (cond-true (stride (c .before .before .args .n)) 0 (sym (c .before .is-size .ensures) ∙ c .if1 .taken))
@@ -22,7 +21,7 @@ pub stride-of-spec : {M : Type 1} → statement M
 stride-of-spec =
     tie.close
     (tie.spec
-    (λ c κs. search needs)
+    (λ c κs. tt)
     (λ c. omega (arith, size c))
     (λ c. omega (arith, square-small (size c .most)))
     (λ c. omega (arith, square-small (size c .most)))

@@ -1,6 +1,5 @@
 -- `RtsSmoother::get_state_refusal` meets its contract.
 use mathlib.Core.Path.{refl, sym, _∙_}
-use borrow.Author.Needs.{needs}
 use borrow.Author.Tests.{lt-ltb, le-ltb}
 use Rattle.rts_smoother.proofs.Records.{refusal-way}
 use Rattle.rts_smoother.proofs.RtsSmoother.get_state_refusal.Statement.{statement}
@@ -24,4 +23,4 @@ returns-3 c =
     refusal-way (a .self) (a .slots .now) (a .k) (sym (c .before .is-buffered .ensures) ∙ c .if1 .left) refl
 
 pub get-state-refusal-spec : {M : Type 1} → statement M
-get-state-refusal-spec = tie.close (tie.spec (λ c κs. search needs) returns returns-2 returns-3)
+get-state-refusal-spec = tie.close (tie.spec (λ c κs. tt) returns returns-2 returns-3)
