@@ -1,89 +1,79 @@
-// src/core/scalar.rs for C: the functions of the number type, and its constants in a slice.
+// The names for C of src/core/scalar.rs: the functions of the number type, and its constants in a slice. Each forwards.
 ghost use mathlib.Core.Path.{_≡_};
-ghost use lib.Dec.{eqb};
 ghost use lib.ListN.{length};
 ghost use Rattle.root.specs.Root.{root as rootOf};
 ghost use Rattle.scalar.specs.Number.{abs, clamp, saturated, ofWhole};
-ghost use Rattle.answer.specs.Answer.{where-sized};
-ghost use Rattle.buffer.specs.Buffer.{left};
-ghost use Rattle.estimators.specs.Slices.{constantNumbers, written};
-use scalar::ControlScalar;
-use scalar::PidScalar;
+ghost use Rattle.answer.specs.Told.{given};
+ghost use Rattle.c_matrix.specs.Calls.{constantsIn};
 
 #[no_mangle]
 pub extern "C" fn scalar_sqrt(x: f64) -> f64
     ensures { λ r. ⌜ r ≡ rootOf x ⌝ }
 {
-    ControlScalar::sqrt(x)
+    c_matrix::numbers::scalar_sqrt(x)
 }
 
 #[no_mangle]
 pub extern "C" fn scalar_abs(x: f64) -> f64
     ensures { λ r. ⌜ r ≡ abs x ⌝ }
 {
-    ControlScalar::abs(x)
+    c_matrix::numbers::scalar_abs(x)
 }
 
 #[no_mangle]
 pub extern "C" fn scalar_clamp_val(x: f64, min: f64, max: f64) -> f64
     ensures { λ r. ⌜ r ≡ clamp x min max ⌝ }
 {
-    ControlScalar::clamp_val(x, min, max)
+    c_matrix::numbers::scalar_clamp_val(x, min, max)
 }
 
 #[no_mangle]
 pub extern "C" fn scalar_saturate(x: f64, limit: f64) -> f64
     ensures { λ r. ⌜ r ≡ saturated x limit ⌝ }
 {
-    ControlScalar::saturate(x, limit)
+    c_matrix::numbers::scalar_saturate(x, limit)
 }
 
 #[no_mangle]
 pub extern "C" fn scalar_from_f64(v: f64) -> f64
     ensures { λ r. ⌜ r ≡ v ⌝ }
 {
-    ControlScalar::from_f64(v)
+    c_matrix::numbers::scalar_from_f64(v)
 }
 
 #[no_mangle]
 pub extern "C" fn scalar_to_f64(x: f64) -> f64
     ensures { λ r. ⌜ r ≡ x ⌝ }
 {
-    ControlScalar::to_f64(x)
+    c_matrix::numbers::scalar_to_f64(x)
 }
 
+// Not forwarded: a signed number handed on would need a proof about its bits.
 #[no_mangle]
 pub extern "C" fn scalar_from_int(v: i32) -> f64
     ensures { λ r. ⌜ r ≡ ofWhole v ⌝ }
 {
-    PidScalar::from_int(v)
+    v as f64
 }
 
 #[no_mangle]
 pub extern "C" fn scalar_pid_abs(x: f64) -> f64
     ensures { λ r. ⌜ r ≡ abs x ⌝ }
 {
-    PidScalar::abs(x)
+    c_matrix::numbers::scalar_pid_abs(x)
 }
 
 #[no_mangle]
 pub extern "C" fn scalar_clamp_pid(x: f64, min: f64, max: f64) -> f64
     ensures { λ r. ⌜ r ≡ clamp x min max ⌝ }
 {
-    PidScalar::clamp_pid(x, min, max)
+    c_matrix::numbers::scalar_clamp_pid(x, min, max)
 }
 
 // ZERO, ONE, TWO, HALF, PI and EPSILON. Refused with 1: a slice of another length than 6.
 #[no_mangle]
 pub extern "C" fn scalar_constants(out: &mut [f64]) -> u8
-    ensures { λ t. ⌜ left t (now (out .exit)) ≡ written (now (out .entry)) (where-sized (eqb (length (now (out .entry))) 6) constantNumbers) ⌝ }
+    ensures { λ t. ⌜ (t, now (out .exit)) ≡ given (now (out .entry)) (constantsIn (length (now (out .entry)))) ⌝ }
 {
-    if out.len() == 6 {
-        let k = ControlScalar::constants();
-        buffer::put_vector(out, 0, [k.zero, k.one, k.two, k.half], 4);
-        buffer::put_vector(out, 4, [k.pi, k.epsilon, 0.0, 0.0], 2);
-        0
-    } else {
-        1
-    }
+    c_matrix::numbers::scalar_constants(out)
 }

@@ -1,0 +1,3 @@
+pub mod Filters
+pub mod Steps
+pub mod Roads

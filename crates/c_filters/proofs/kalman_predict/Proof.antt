@@ -1,0 +1,35 @@
+-- `kalman_predict` meets its contract: one road by its numbers, and else rows.
+use native.Mathlib.Omega.{arith}
+use mathlib.Core.Path.{_≡_, sym, _∙_}
+use lib.ListN.{length}
+use borrow.Author.Needs.{needs}
+use Rattle.c_filters.proofs.Roads.{Road, road-of, predicts}
+use Rattle.c_filters.proofs.kalman_predict.Statement.{statement}
+use Rattle.c_filters.proofs.kalman_predict.Tie as tie
+
+road : (c : tie.Then1) → let a = c .before .before .before .before .args in Road (a .n) (a .m) (a .i) (length (a .filter .now)) (length (a .u .now))
+road c = road-of _ _ _ _ _ (sym (c .before .is-road .ensures) ∙ c .if1 .taken)
+
+returns : tie.Need-returns
+returns c =
+    let put = c .before .before in
+    let step = put .before .before in
+    let f = step .before .before in
+    let t = f .before .before in
+    let a = t .before .before .before .before .args in
+    predicts (a .filter .now) (a .u .now) (road t) (f .road-at .ensures) (step .predict .ensures) (put .put-road .ensures)
+
+pub kalman-predict-spec : {M : Type 1} → statement M
+kalman-predict-spec =
+    tie.close
+    (tie.spec
+    (λ c κs. search needs)
+    (λ c κs. road (c .before) .long)
+    (λ c. omega (arith, road (c .before .before .before) .one))
+    (λ c κs. search needs)
+    (λ c κs. road (c .before .before .before .before .before) .long)
+    (λ c. search needs)
+    returns
+    (λ c κs. search needs)
+    (λ c. search needs)
+    (λ c. search needs))

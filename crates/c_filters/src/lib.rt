@@ -1,0 +1,390 @@
+// src/estimator/kalman.rs on a slice that the caller lends: a filter of state n, measurement m and input i is a, b, h, q, r, x
+// and p by rows, one after another. A step reads the parts that it needs as rows, once, and writes x and p back, once; the
+// other calls copy. Refused with 1: a size, or a slice of another length.
+ghost use mathlib.Core.Path.{_≡_};
+ghost use mathlib.Core.Bool.{true};
+ghost use mathlib.Core.List.{[], _∷_};
+ghost use Prim.Native.Nat.{_≤_};
+ghost use lib.ListN.{length};
+ghost use Rattle.answer.specs.Told.{given};
+ghost use Rattle.steps.specs.Step.{wellSized};
+ghost use Rattle.steps.specs.Road.{roadOf, estimateOf};
+ghost use Rattle.layout.specs.Layout.{joined};
+ghost use Rattle.c_filters.specs.Filter.{estimateFrom, isFilter, isStep, isStepWith, isParts, isRoad, roadIn, withEstimate, predictIn, updateIn, newIn, resetIn, stateIn, covarianceIn, filterNumbers, trackerIn};
+use answer::Status;
+use matrix::ScalarResult;
+use matrix::both;
+use matrix::size_of;
+use steps::road;
+use steps::road::Pair;
+use steps::road::Road;
+use steps::road::Two;
+
+// ---- sizes and places
+
+// Where the estimate begins.
+fn estimate_from(n: usize, m: usize, i: usize) -> usize
+    requires { ⌜ wellSized n m i ≡ true ⌝ }
+    ensures { λ k. ⌜ (k ≡ estimateFrom n m i) × (k ≤ 80) ⌝ }
+{
+    n * n + n * i + m * n + n * n + m * m
+}
+
+// A slice of len numbers is just a filter.
+fn is_filter(n: usize, m: usize, i: usize, len: usize) -> bool
+    ensures { λ t. ⌜ t ≡ isFilter n m i len ⌝ }
+{
+    if steps::is_well_sized(n, m, i) {
+        len == estimate_from(n, m, i) + (n + n * n)
+    } else {
+        false
+    }
+}
+
+// And the k numbers beside it are as many as are asked for.
+fn is_step(n: usize, m: usize, i: usize, len: usize, asked: usize, k: usize) -> bool
+    ensures { λ t. ⌜ t ≡ isStep n m i len asked k ⌝ }
+{
+    both(is_filter(n, m, i, len), k == asked)
+}
+
+// ---- the steps
+
+// One step on, with the input u of i numbers, for any sizes.
+fn predict_rows(n: usize, m: usize, i: usize, filter: &mut [f64], u: &[f64]) -> u8
+    ensures { λ t. ⌜ (t, now (filter .exit)) ≡ predictIn n m i (now (filter .entry)) (now (u .entry)) ⌝ }
+{
+    if is_step(n, m, i, filter.len(), i, u.len()) {
+        let from = estimate_from(n, m, i);
+        let sn = size_of(n);
+        let si = size_of(i);
+        let a = layout::matrix_at(filter, 0, sn, sn);
+        let b = layout::matrix_at(filter, n * n, sn, si);
+        let q = layout::matrix_at(filter, n * n + n * i + m * n, sn, sn);
+        let v = layout::vector_at(u, 0, si);
+        let mut x = layout::vector_at(filter, from, sn);
+        let mut p = layout::matrix_at(filter, from + n, sn, sn);
+        steps::predict(&a, &b, &q, &v, sn, si, &mut x, &mut p);
+        layout::put_pair(filter, from, x, &p, sn);
+        0
+    } else {
+        1
+    }
+}
+
+// Corrected by the measurement z of m numbers, for any sizes.
+fn update_rows(
+    n: usize,
+    m: usize,
+    i: usize,
+    filter: &mut [f64],
+    z: &[f64],
+    innovation: &mut [f64],
+) -> u8
+    ensures { λ t. ⌜ (t, (now (filter .exit), now (innovation .exit))) ≡ updateIn n m i (now (filter .entry)) (now (z .entry)) (now (innovation .entry)) ⌝ }
+{
+    if both(
+        is_step(n, m, i, filter.len(), m, z.len()),
+        innovation.len() == m,
+    ) {
+        let from = estimate_from(n, m, i);
+        let sn = size_of(n);
+        let sm = size_of(m);
+        let h = layout::matrix_at(filter, n * n + n * i, sm, sn);
+        let r = layout::matrix_at(filter, n * n + n * i + m * n + n * n, sm, sm);
+        let v = layout::vector_at(z, 0, sm);
+        let mut x = layout::vector_at(filter, from, sn);
+        let mut p = layout::matrix_at(filter, from + n, sn, sn);
+        let answer = steps::update(&h, &r, &v, sn, sm, &mut x, &mut p);
+        let status = answer.status;
+        match status {
+            Status::Done => {
+                layout::put_pair(filter, from, x, &p, sn);
+                let y = answer.cells;
+                layout::put_vector(innovation, 0, y, sm);
+                0
+            }
+            Status::Refused(number) => number,
+        }
+    } else {
+        1
+    }
+}
+
+// ---- one road: two states, one measurement and one input, 19 numbers, read where they stand
+
+// The sizes of a road, with len numbers of the filter and k beside it.
+fn is_road(n: usize, m: usize, i: usize, len: usize, k: usize) -> bool
+    ensures { λ t. ⌜ t ≡ isRoad n m i len k ⌝ }
+{
+    let sizes = both(n == 2, both(m == 1, i == 1));
+    both(sizes, both(len == 19, k == 1))
+}
+
+fn road_at(f: &[f64]) -> Road
+    requires { ⌜ length (now f) ≡ 19 ⌝ }
+    ensures { λ r. ⌜ roadOf r ≡ roadIn (now (f .entry)) ⌝ }
+{
+    let a = Two {
+        a: f[0],
+        b: f[1],
+        c: f[2],
+        d: f[3],
+    };
+    let q = Two {
+        a: f[8],
+        b: f[9],
+        c: f[10],
+        d: f[11],
+    };
+    let p = Two {
+        a: f[15],
+        b: f[16],
+        c: f[17],
+        d: f[18],
+    };
+    let pair = Pair {
+        x0: f[13],
+        x1: f[14],
+        p,
+    };
+    Road {
+        a,
+        b0: f[4],
+        b1: f[5],
+        h0: f[6],
+        h1: f[7],
+        q,
+        r: f[12],
+        pair,
+    }
+}
+
+// The pair into its place.
+fn put_road(f: &mut [f64], e: Pair)
+    requires { ⌜ length (now f) ≡ 19 ⌝ }
+    ensures { λ u. ⌜ now (f .exit) ≡ withEstimate 2 1 1 (now (f .entry)) (estimateOf e) ⌝ }
+{
+    let p = e.p;
+    let numbers = [e.x0, e.x1, p.a, p.b, p.c, p.d];
+    layout::put_slice(f, 13, &numbers[..]);
+}
+
+// ---- the steps
+
+// One step on, with the input u of i numbers.
+pub fn kalman_predict(n: usize, m: usize, i: usize, filter: &mut [f64], u: &[f64]) -> u8
+    ensures { λ t. ⌜ (t, now (filter .exit)) ≡ predictIn n m i (now (filter .entry)) (now (u .entry)) ⌝ }
+{
+    if is_road(n, m, i, filter.len(), u.len()) {
+        let f = road_at(filter);
+        let e = road::predict(f.a, f.b0, f.b1, f.q, u[0], f.pair);
+        put_road(filter, e);
+        return 0;
+    }
+    predict_rows(n, m, i, filter, u)
+}
+
+// Corrected by the measurement z of m numbers; the innovation is z less H times the state before. Refused with 3: inversion
+// rejects the innovation covariance.
+pub fn kalman_update(
+    n: usize,
+    m: usize,
+    i: usize,
+    filter: &mut [f64],
+    z: &[f64],
+    innovation: &mut [f64],
+) -> u8
+    ensures { λ t. ⌜ (t, (now (filter .exit), now (innovation .exit))) ≡ updateIn n m i (now (filter .entry)) (now (z .entry)) (now (innovation .entry)) ⌝ }
+{
+    if both(
+        is_road(n, m, i, filter.len(), z.len()),
+        innovation.len() == 1,
+    ) {
+        let f = road_at(filter);
+        let v = road::update(f.h0, f.h1, f.r, z[0], f.pair);
+        let answer = v.answer;
+        match answer {
+            ScalarResult::Value(y) => {
+                let e = v.pair;
+                put_road(filter, e);
+                innovation[0] = y;
+                return 0;
+            }
+            ScalarResult::Refused(number) => {
+                return number;
+            }
+        }
+    }
+    update_rows(n, m, i, filter, z, innovation)
+}
+
+// ---- copies
+
+// Slices of these lengths are just the parts of a filter of len numbers.
+fn is_parts(
+    n: usize,
+    m: usize,
+    i: usize,
+    len: usize,
+    a: usize,
+    b: usize,
+    h: usize,
+    q: usize,
+    r: usize,
+    x: usize,
+    p: usize,
+) -> bool
+    ensures { λ t. ⌜ t ≡ isParts n m i len a b h q r x p ⌝ }
+{
+    if is_filter(n, m, i, len) {
+        let model = both(a == n * n, both(b == n * i, h == m * n));
+        let noise = both(q == n * n, r == m * m);
+        both(model, both(noise, both(x == n, p == n * n)))
+    } else {
+        false
+    }
+}
+
+// The filter of the parts a, b, h, q, r, x0 and p0, each by rows.
+pub fn kalman_new(
+    n: usize,
+    m: usize,
+    i: usize,
+    a: &[f64],
+    b: &[f64],
+    h: &[f64],
+    q: &[f64],
+    r: &[f64],
+    x0: &[f64],
+    p0: &[f64],
+    filter: &mut [f64],
+) -> u8
+    ensures { λ t. ⌜ (t, now (filter .exit)) ≡ given (now (filter .entry)) (newIn n m i (length (now (filter .entry))) (now (a .entry)) (now (b .entry)) (now (h .entry)) (now (q .entry)) (now (r .entry)) (now (x0 .entry)) (now (p0 .entry))) ⌝ }
+{
+    if is_parts(
+        n,
+        m,
+        i,
+        filter.len(),
+        a.len(),
+        b.len(),
+        h.len(),
+        q.len(),
+        r.len(),
+        x0.len(),
+        p0.len(),
+    ) {
+        let to_b = a.len();
+        let to_h = to_b + b.len();
+        let to_q = to_h + h.len();
+        let to_r = to_q + q.len();
+        let to_x = to_r + r.len();
+        let to_p = to_x + x0.len();
+        layout::put_slice(filter, 0, a);
+        layout::put_slice(filter, to_b, b);
+        layout::put_slice(filter, to_h, h);
+        layout::put_slice(filter, to_q, q);
+        layout::put_slice(filter, to_r, r);
+        layout::put_slice(filter, to_x, x0);
+        layout::put_slice(filter, to_p, p0);
+        0
+    } else {
+        1
+    }
+}
+
+// Another state x0 and covariance p0; the model stays.
+pub fn kalman_reset(n: usize, m: usize, i: usize, filter: &mut [f64], x0: &[f64], p0: &[f64]) -> u8
+    ensures { λ t. ⌜ (t, now (filter .exit)) ≡ given (now (filter .entry)) (resetIn n m i (now (filter .entry)) (now (x0 .entry)) (now (p0 .entry))) ⌝ }
+{
+    if is_step(n, m, i, filter.len(), n, x0.len()) {
+        if p0.len() == n * n {
+            let from = estimate_from(n, m, i);
+            layout::put_slice(filter, from, x0);
+            layout::put_slice(filter, from + n, p0);
+            return 0;
+        }
+    }
+    1
+}
+
+// The state, n numbers.
+pub fn kalman_state(n: usize, m: usize, i: usize, filter: &[f64], out: &mut [f64]) -> u8
+    ensures { λ t. ⌜ (t, now (out .exit)) ≡ given (now (out .entry)) (stateIn n m i (now (filter .entry)) (length (now (out .entry)))) ⌝ }
+{
+    if is_step(n, m, i, filter.len(), n, out.len()) {
+        let from = estimate_from(n, m, i);
+        let end = from + n;
+        layout::put_slice(out, 0, &filter[from..end]);
+        0
+    } else {
+        1
+    }
+}
+
+// The covariance, n rows of n numbers.
+pub fn kalman_covariance(n: usize, m: usize, i: usize, filter: &[f64], out: &mut [f64]) -> u8
+    ensures { λ t. ⌜ (t, now (out .exit)) ≡ given (now (out .entry)) (covarianceIn n m i (now (filter .entry)) (length (now (out .entry)))) ⌝ }
+{
+    if is_filter(n, m, i, filter.len()) {
+        if out.len() == n * n {
+            let from = estimate_from(n, m, i) + n;
+            let end = from + n * n;
+            layout::put_slice(out, 0, &filter[from..end]);
+            return 0;
+        }
+    }
+    1
+}
+
+// ---- position and speed
+
+// The nineteen numbers of a road's filter.
+fn road_numbers(f: Road) -> [f64; 19]
+    ensures { λ l. ⌜ l ≡ filterNumbers (roadOf f) ⌝ }
+{
+    let a = f.a;
+    let q = f.q;
+    let e = f.pair;
+    let p = e.p;
+    [
+        a.a,
+        a.b,
+        a.c,
+        a.d,
+        f.b0,
+        f.b1,
+        f.h0,
+        f.h1,
+        q.a,
+        q.b,
+        q.c,
+        q.d,
+        f.r,
+        e.x0,
+        e.x1,
+        p.a,
+        p.b,
+        p.c,
+        p.d,
+    ]
+}
+
+// A filter of 19 numbers that tracks position and speed, with the step dt in seconds.
+pub fn kalman_position_velocity(
+    dt: f64,
+    process_noise: f64,
+    measurement_noise: f64,
+    filter: &mut [f64],
+) -> u8
+    ensures { λ t. ⌜ (t, now (filter .exit)) ≡ given (now (filter .entry)) (trackerIn dt «process_noise» «measurement_noise» (length (now (filter .entry)))) ⌝ }
+{
+    if filter.len() == 19 {
+        let numbers = road_numbers(road::position_velocity(dt, process_noise, measurement_noise));
+        layout::put_slice(filter, 0, &numbers[..]);
+        0
+    } else {
+        1
+    }
+}

@@ -1,0 +1,20 @@
+-- `matrix_inv` meets its contract.
+use Rattle.algebra.specs.Inverse.{inv}
+use Rattle.algebra.proofs.Inverses.{inv-shape}
+use Rattle.c_matrix.proofs.Ways.{rows-at, two-of, matrix-in, answer-handed, if-refuses, none}
+use Rattle.c_matrix.proofs.matrices.matrix_inv.Statement.{statement}
+use Rattle.c_matrix.proofs.matrices.matrix_inv.Tie as tie
+
+returns : tie.Need-returns
+returns c =
+    let x = c .before .before .before .before .before .before in
+    let t = x .before .before in
+    let a = t .before .before .before .before .args in
+    let w = two-of (a .n) (a .n) (a .a .now) (a .n) (a .n) (a .out .now) (t .before .are-two-matrices .ensures) (t .if1 .taken) in
+    let N = rows-at (w .first) (x .before .size-of .ensures) in
+    answer-handed (w .passed) (w .last) (λ i. inv (N i) (matrix-in (w .first) N N (x .matrix-at .ensures) i))
+    (λ B. inv-shape _ _ B) (c .before .before .before .inverse-of .ensures) (c .before .before .give-matrix .ensures)
+
+pub matrix-inv-spec : {M : Type 1} → statement M
+matrix-inv-spec =
+    tie.close (tie.spec none none none none none (λ c. search) returns (λ c. if-refuses _ _ (c .before .are-two-matrices .ensures) (c .if1 .left)))

@@ -1,4 +1,0 @@
-pub mod Slices
-pub mod Given
-pub mod Filter
-pub mod Smoother
