@@ -2,13 +2,13 @@
 // or to test. What is timed is the function that Rattle code calls.
 ghost use mathlib.Core.Path.{_≡_};
 ghost use Rattle.answer.specs.Answer.{where-sized, if-sized};
-ghost use Rattle.matrix.specs.Matrix.{mul};
-ghost use Rattle.matrix.specs.Array.{used};
-ghost use Rattle.matrix.specs.Result.{sized, chained, asMatrix};
-ghost use Rattle.inverse.specs.Inverse.{inv};
-ghost use Rattle.cholesky.specs.Cholesky.{choleskyOf};
-ghost use Rattle.kalman_step.specs.Step.{estimateFrom};
-ghost use Rattle.kalman.specs.Record.{modelFrom, newOf};
+ghost use Rattle.algebra.specs.Matrix.{mul};
+ghost use Rattle.algebra.specs.Array.{used};
+ghost use Rattle.matrix.specs.Size.{sized, chained};
+ghost use Rattle.matrix.specs.Result.{asMatrix};
+ghost use Rattle.algebra.specs.Inverse.{inv};
+ghost use Rattle.algebra.specs.Cholesky.{choleskyOf};
+ghost use Rattle.kalman.specs.Record.{motionFrom, sensorFrom, estimateFrom, newOf};
 ghost use Rattle.bench.specs.Steps.{stepsOf};
 use kalman::KalmanFilter;
 
@@ -79,7 +79,7 @@ pub extern "C" fn bench_steps(
     times: usize,
     out: &mut [f64; 4],
 )
-    ensures { λ w. ⌜ now (out .exit) ≡ stepsOf times (newOf (modelFrom n m i (now (a .entry)) (now (b .entry)) (now (h .entry)) (now (q .entry)) (now (r .entry))) (estimateFrom n (now (x .entry)) (now (p .entry))) .filter) (now (u .entry)) i (now (z .entry)) m .x ⌝ }
+    ensures { λ w. ⌜ now (out .exit) ≡ stepsOf times (newOf (motionFrom n i (now (a .entry)) (now (b .entry)) (now (q .entry))) (sensorFrom n m (now (h .entry)) (now (r .entry))) (estimateFrom n (now (x .entry)) (now (p .entry))) .filter) (now (u .entry)) i (now (z .entry)) m .x ⌝ }
 {
     let s = KalmanFilter::new(n, m, i, *a, *b, *h, *q, *r, *x, *p);
     let f = s.filter;
