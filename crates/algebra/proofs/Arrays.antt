@@ -80,14 +80,6 @@ pub both-used : (f : Float → Float → Float) (r c : ℕ) (a b : List (List Fl
     → mat r c (λ i j. f (cell (used r c a) i j) (cell (used r c b) i j)) ≡ mat r c (λ i j. f (cell a i j) (cell b i j))
 both-used f r c a b = both-ext f r c (used r c a) (used r c b) a b (λ i j h g. cell-used r c a i j h g) (λ i j h g. cell-used r c b i j h g)
 
-pub add-used : (r c : ℕ) (a b : List (List Float)) → add r c (used r c a) (used r c b) ≡ mat r c (λ i j. cell a i j ⊕ cell b i j)
-unfolding add
-add-used r c a b = both-used (λ x y. x ⊕ y) r c a b
-
-pub sub-used : (r c : ℕ) (a b : List (List Float)) → sub r c (used r c a) (used r c b) ≡ mat r c (λ i j. cell a i j ⊖ cell b i j)
-unfolding sub
-sub-used r c a b = both-used (λ x y. x ⊖ y) r c a b
-
 -- a times v is v times transposed a: a product does not depend on the order of its factors
 pub matvec-transposed-used : (r c : ℕ) (a : List (List Float)) (v : List Float) → matvec r c (used r c a) (cut c v) ≡ table r (λ i. sum c (λ t. at v t ⊗ cell a i t))
 matvec-transposed-used r c a v =
@@ -95,10 +87,18 @@ matvec-transposed-used r c a v =
     ∙ table-ext r (λ i. sum c (λ t. cell a i t ⊗ at v t)) (λ i. sum c (λ t. at v t ⊗ cell a i t))
     (λ i h. sum-ext c (λ t. cell a i t ⊗ at v t) (λ t. at v t ⊗ cell a i t) (λ t g. times-comm (cell a i t) (at v t)))
 
+-- what was made for all sixteen cells, and what was made of all four rows
+pub used-mat : (r c : ℕ) (f : ℕ → ℕ → Float) → r ≤ 4 → c ≤ 4 → used r c (mat 4 4 f) ≡ mat r c f
+unfolding used cut
+used-mat r c f hr hc = mat-ext r c (λ i j. cell (mat 4 4 f) i j) f (λ i j hi hj. cell-mat 4 4 f i j (le-trans hi hr) (le-trans hj hc))
+
+pub used-four : (r c : ℕ) (a : List (List Float)) → r ≤ 4 → used r c (table 4 (λ i. row a i)) ≡ used r c a
+unfolding used
+used-four r c a h = table-ext r (λ i. cut c (row (table 4 (λ k. row a k)) i)) (λ i. cut c (row a i)) (λ i k. ap (cut c) (getD-table 4 (λ k. row a k) i [] (le-trans k h)))
+
 pub identity-used : (n : ℕ) → n ≤ 4 → used n n (identity 4) ≡ identity n
-unfolding identity used cut
-identity-used n h =
-    mat-ext n n (λ i j. cell (identity 4) i j) (λ i j. cond (eqb i j) one +0) (λ i j hi hj. cell-mat 4 4 (λ p q. cond (eqb p q) one +0) i j (le-trans hi h) (le-trans hj h))
+unfolding identity
+identity-used n h = used-mat n n (λ i j. cond (eqb i j) one +0) h h
 
 -- a matrix is its own used part
 pub used-all : (r c : ℕ) (A : Matrix) → Shape r c A → used r c A ≡ A

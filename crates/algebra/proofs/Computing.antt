@@ -12,5 +12,5 @@ unfolding Ieee.ofBits Ieee.toBits Ieee.ofInt Ieee.round Ieee.add Ieee.sub Ieee.m
     Root.root Number.abs
     Matrix.sumFrom Matrix.dot Matrix.identity Matrix.scale Matrix.transpose Matrix.add Matrix.sub Matrix.mul Matrix.matvec Matrix.vecAdd Matrix.vecSub Matrix.vecScale
     Inverse.noPivot Inverse.pivotRow Inverse.swapped Inverse.scaledRow Inverse.reduced Inverse.exchanged Inverse.cleared Inverse.column Inverse.columns Inverse.inv
-    Cholesky.noDiagonal Cholesky.diagonalOf Cholesky.leftCells Cholesky.factorRow Cholesky.factorRows Cholesky.choleskyOf
+    Cholesky.noDiagonal Cholesky.diagonalOf Cholesky.leftCells Cholesky.factorRow Cholesky.factorRows Cholesky.cholesky
 computing = 0

@@ -9,16 +9,16 @@ use lib.ListN.{length, length-append}
 use lib.Ieee.{Float}
 use Rattle.root.specs.Root.{root}
 use Rattle.scalar.specs.Number.{_⊖_, _⊘_, +0}
-use Rattle.answer.specs.Answer.{refused, answered, and-then, mapped}
+use Rattle.answer.specs.Answer.{Answer, refused, answered, and-then, mapped}
 use Rattle.answer.specs.Table.{padTo}
-use Rattle.algebra.specs.Matrix.{Vector, Matrix, at, row, cell, dot}
+use Rattle.algebra.specs.Matrix.{Vector, Matrix, at, row, cell, dot, sumFrom, oneByOne}
 use Rattle.algebra.specs.Array.{used}
 use Rattle.answer.proofs.Tables.{length-padTo}
 use Rattle.algebra.proofs.Matrices.{Shape, shape-more}
 use Rattle.answer.proofs.Answers.{Told, result, number-of, result-of, told-if, told-then, told-mapped}
 use Rattle.algebra.proofs.Arrays.{cell-used}
 use Rattle.algebra.proofs.Vectors.{dot-ext}
-use Rattle.algebra.specs.Cholesky.{noDiagonal, diagonalOf, leftCells, factorRow, factorRows, choleskyOf}
+use Rattle.algebra.specs.Cholesky.{noDiagonal, diagonalOf, leftCells, factorRow, factorRows, cholesky}
 
 -- ---- shape, and the one refusal
 pub length-left : (a : Vector) (L : Matrix) (j : ℕ) → length (leftCells a L j) ≡ j
@@ -46,13 +46,22 @@ told-rows n A (suc i) h =
 pub shape-rows : (n : ℕ) (A : Matrix) (i : ℕ) (L : Matrix) → i ≤ n → factorRows n A i ≡ answered L → Shape i n L
 shape-rows n A i L h e = result-of (told-rows n A i h) e
 
-pub shape-cholesky : (n : ℕ) (A L : Matrix) → choleskyOf n A ≡ answered L → Shape n n L
-unfolding choleskyOf
+pub shape-cholesky : (n : ℕ) (A L : Matrix) → cholesky n A ≡ answered L → Shape n n L
+unfolding cholesky
 shape-cholesky n A L e = shape-rows n A n L (le-refl n) e
 
-pub refused-cholesky : (n : ℕ) (A : Matrix) (k : ℕ) → choleskyOf n A ≡ refused k → k ≡ 4
-unfolding choleskyOf
+pub refused-cholesky : (n : ℕ) (A : Matrix) (k : ℕ) → cholesky n A ≡ refused k → k ≡ 4
+unfolding cholesky
 refused-cholesky n A k e = number-of (told-rows n A n (le-refl n)) e
+
+-- the factor of a matrix of one cell
+pub number-cholesky : (x : Float) → cholesky 1 (oneByOne x) ≡ mapped oneByOne (diagonalOf (x ⊖ +0))
+unfolding cholesky factorRows factorRow leftCells dot sumFrom
+number-cholesky x = within (diagonalOf (x ⊖ +0))
+  where
+    within : (o : Answer Float) → mapped (λ v. v ∷ []) (mapped (λ y. padTo 1 +0 (y ∷ [])) o) ≡ mapped oneByOne o
+    within (refused k) = refl
+    within (answered y) = refl
 
 -- ---- what is read: of A the lower triangle, and of the rows above what stands up to their diagonals
 pub left-ext : (a b : Vector) (L M : Matrix) (i : ℕ) → ((j : ℕ) → j < i → at a j ≡ at b j) → ((j k : ℕ) → j < i → k ≤ j → cell L j k ≡ cell M j k)
@@ -79,9 +88,9 @@ rows-ext n A B (suc i) p =
     let e : factorRows n A i ≡ factorRows n B i = rows-ext n A B i (λ k j h g. p k j (omega arith) g) in
     λ t. and-then (e t) (λ L. mapped (λ v. L ++ v ∷ []) (row-ext n (row A i) (row B i) L i (λ j h. p i j (omega arith) h) t))
 
-pub cholesky-ext : (n : ℕ) (A B : Matrix) → ((i j : ℕ) → i < n → j ≤ i → cell A i j ≡ cell B i j) → choleskyOf n A ≡ choleskyOf n B
-unfolding choleskyOf
+pub cholesky-ext : (n : ℕ) (A B : Matrix) → ((i j : ℕ) → i < n → j ≤ i → cell A i j ≡ cell B i j) → cholesky n A ≡ cholesky n B
+unfolding cholesky
 cholesky-ext n A B p = rows-ext n A B n p
 
-pub cholesky-used : (n : ℕ) (a : List (List Float)) → choleskyOf n (used n n a) ≡ choleskyOf n a
+pub cholesky-used : (n : ℕ) (a : List (List Float)) → cholesky n (used n n a) ≡ cholesky n a
 cholesky-used n a = cholesky-ext n (used n n a) a (λ i j h g. cell-used n n a i j h (omega arith))

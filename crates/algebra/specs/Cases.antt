@@ -7,7 +7,7 @@ use Rattle.root.specs.Root.{root}
 use Rattle.answer.specs.Answer.{refused, answered}
 use Rattle.algebra.specs.Matrix.{mul, oneByOne, twoByTwo}
 use Rattle.algebra.specs.Inverse.{limit, noPivot, pivotRow, inv}
-use Rattle.algebra.specs.Cholesky.{choleskyOf}
+use Rattle.algebra.specs.Cholesky.{cholesky}
 use Rattle.algebra.specs.Values.{−0, n0, n1, n2, n3, n4, n5, n9, −1, −2, ½, ¼, ¾, ⅓, −⅓, 1−⅓, least, rootOfLeast, √2, limitOfPivots, beforeLimit}
 
 pub record Cases : Type 0 where
@@ -39,8 +39,8 @@ pub record Cases : Type 0 where
   pub pivot-at-limit : noPivot limitOfPivots ≡ false
   pub pivot-below-limit : noPivot beforeLimit ≡ true
   -- Cholesky's factor: the upper triangle, 9, is not read; what is left of a diagonal is zero; a NaN passes; -0 less a sum from +0 on stays -0
-  pub cholesky-lower : choleskyOf 2 (twoByTwo n4 n9 n2 n5) ≡ answered (twoByTwo n2 n0 n1 n2)
-  pub cholesky-not-positive : choleskyOf 2 (twoByTwo n1 n0 n1 n1) ≡ refused 4
-  pub cholesky-of-nan : choleskyOf 1 (oneByOne nan) ≡ answered (oneByOne nan)
-  pub cholesky-sum : choleskyOf 3 ((n1 ∷ nan ∷ nan ∷ []) ∷ (−1 ∷ n2 ∷ nan ∷ []) ∷ (n0 ∷ −0 ∷ n1 ∷ []) ∷ [])
+  pub cholesky-lower : cholesky 2 (twoByTwo n4 n9 n2 n5) ≡ answered (twoByTwo n2 n0 n1 n2)
+  pub cholesky-not-positive : cholesky 2 (twoByTwo n1 n0 n1 n1) ≡ refused 4
+  pub cholesky-of-nan : cholesky 1 (oneByOne nan) ≡ answered (oneByOne nan)
+  pub cholesky-sum : cholesky 3 ((n1 ∷ nan ∷ nan ∷ []) ∷ (−1 ∷ n2 ∷ nan ∷ []) ∷ (n0 ∷ −0 ∷ n1 ∷ []) ∷ [])
       ≡ answered ((n1 ∷ n0 ∷ n0 ∷ []) ∷ (−1 ∷ n1 ∷ n0 ∷ []) ∷ (n0 ∷ −0 ∷ n1 ∷ []) ∷ [])

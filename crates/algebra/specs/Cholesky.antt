@@ -37,5 +37,5 @@ unfoldable pub factorRows : ℕ → Matrix → ℕ → Answer Matrix
 factorRows n A zero = answered []
 factorRows n A (suc i) = and-then (factorRows n A i) (λ L. mapped (λ v. L ++ v ∷ []) (factorRow n (row A i) L i))
 
-unfoldable pub choleskyOf : ℕ → Matrix → Answer Matrix
-choleskyOf n A = factorRows n A n
+unfoldable pub cholesky : ℕ → Matrix → Answer Matrix
+cholesky n A = factorRows n A n

@@ -7,7 +7,7 @@ ghost use Rattle.algebra.specs.Array.{used};
 ghost use Rattle.matrix.specs.Size.{sized, chained};
 ghost use Rattle.matrix.specs.Result.{asMatrix};
 ghost use Rattle.algebra.specs.Inverse.{inv};
-ghost use Rattle.algebra.specs.Cholesky.{choleskyOf};
+ghost use Rattle.algebra.specs.Cholesky.{cholesky};
 ghost use Rattle.kalman.specs.Record.{motionFrom, sensorFrom, estimateFrom, newOf};
 ghost use Rattle.bench.specs.Steps.{stepsOf};
 use kalman::KalmanFilter;
@@ -35,7 +35,7 @@ pub extern "C" fn bench_inv(n: usize, a: &[[f64; 4]; 4], out: &mut [[f64; 4]; 4]
 
 #[no_mangle]
 pub extern "C" fn bench_cholesky(n: usize, a: &[[f64; 4]; 4], out: &mut [[f64; 4]; 4])
-    ensures { λ u. ⌜ now (out .exit) ≡ asMatrix (if-sized (sized n) (choleskyOf n (used n n (now (a .entry))))) .rows ⌝ }
+    ensures { λ u. ⌜ now (out .exit) ≡ asMatrix (if-sized (sized n) (cholesky n (used n n (now (a .entry))))) .rows ⌝ }
 {
     let m = cholesky::cholesky(*a, n);
     *out = matrix::rows_of(m);

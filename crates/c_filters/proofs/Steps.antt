@@ -8,7 +8,7 @@ use lib.ListN.{length}
 use lib.Ieee.{Float}
 use Rattle.answer.specs.declared.Status.{Status}
 use Rattle.answer.specs.declared.Status.the-variants.{Done, Refused}
-use Rattle.answer.specs.Outcome.{Outcome, kept}
+use Rattle.answer.specs.Outcome.{Outcome, standing}
 use Rattle.algebra.specs.Matrix.{Vector, Matrix}
 use Rattle.algebra.specs.Array.{cut, used, padRow, pad}
 use Rattle.algebra.proofs.Arrays.{cut-padRow, used-pad}
@@ -84,7 +84,7 @@ module _ (n m i : ℕ) (f : List Float) (W : Whole n m i (length f)) {N M I : Si
       → p ≡ pad (matrixIn (count N) (count N) f (k + n))
       → (x′, p′) ≡ leftIn x p (predict (motionIn N I a b q) (cut (count I) v) (estimateIn N x p))
       → g ≡ putAt k (cut (count N) x′ ++ joined (used (count N) (count N) p′)) f
-      → g ≡ kept (withEstimate n m i f) f (predict (motionAt n m i f) u (estimateAt n m i f) .left)
+      → g ≡ standing (withEstimate n m i f) f (predict (motionAt n m i f) u (estimateAt n m i f) .left)
   unfolding predict
   predicts u {a} {b} {q} {p} {p′} {v} {x} {x′} l ea eb eq ev ex ep s r =
       let both = s ∙ (λ t. leftIn x p (predict (motion-read ea eb eq t) (vector-given I u isI l ev t) (estimate-read ex ep t))) in

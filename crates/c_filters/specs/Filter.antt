@@ -6,7 +6,7 @@ use lib.Dec.{eqb}
 use lib.ListN.{length, take, drop}
 use lib.Ieee.{Float}
 use Rattle.answer.specs.Answer.{Answer, refused, answered, where-sized}
-use Rattle.answer.specs.Outcome.{Outcome, if-fitting, kept, handed}
+use Rattle.answer.specs.Outcome.{Outcome, if-fitting, standing, handed}
 use Rattle.answer.specs.Told.{numberOf}
 use Rattle.algebra.specs.Matrix.{Vector, Matrix}
 use Rattle.filtering.specs.Filter.{Motion, Sensor, Estimate, estimate}
@@ -69,7 +69,7 @@ toldIn y (answered a) = a
 
 -- the outcome of an update of f, with the innovation in a slice that held y
 abbrev pub outcomeIn : ℕ → ℕ → ℕ → List Float → List Float → Outcome Estimate Vector → ℕ × (List Float × List Float)
-outcomeIn n m i f y o = (numberOf (o .told), (kept (withEstimate n m i f) f (o .left), toldIn y (o .told)))
+outcomeIn n m i f y o = (numberOf (o .told), (standing (withEstimate n m i f) f (o .left), toldIn y (o .told)))
 
 abbrev pub updateIn : ℕ → ℕ → ℕ → List Float → List Float → List Float → ℕ × (List Float × List Float)
 updateIn n m i f z y =

@@ -1,17 +1,17 @@
 -- The ways in and out of a call on slices: what a test that is passed says of them, what is read from one, and what is told and left in the
 -- lent place. `told` is the law of all calls; the laws after it say what it asks for by the place and by how the result was made. Assumes nothing.
 use mathlib.Core.Path.{_≡_, refl, sym, ap, _∙_}
-use mathlib.Core.List.{List}
+use mathlib.Core.List.{List, [], _∷_}
 use mathlib.Core.Bool.{Bool, true, false, _&&_}
 use Prim.Native.Nat.{ℕ, _*_}
 use native.Mathlib.Omega.{arith}
-use lib.ListN.{length}
+use lib.ListN.{length, set}
 use lib.Ieee.{Float}
 use borrow.Author.Tests.{eqb-true, eq-eqb}
 use Rattle.answer.specs.Answer.{Answer, refused, answered, mapped, where-sized, if-sized}
 use Rattle.answer.specs.Told.{given}
 use Rattle.answer.proofs.Choice.{and-left, and-right}
-use Rattle.algebra.specs.Matrix.{Vector, Matrix}
+use Rattle.algebra.specs.Matrix.{Vector, Matrix, oneByOne}
 use Rattle.algebra.specs.Array.{cut, used, padRow, pad}
 use Rattle.algebra.proofs.Matrices.{Shape}
 use Rattle.algebra.proofs.Arrays.{length-cut, used-pad, cut-padRow}
@@ -27,7 +27,7 @@ use Rattle.layout.proofs.Places.{placed-whole}
 use Rattle.layout.proofs.Rows.{whole-vector}
 use Rattle.layout.proofs.Calls.{length-matrix, matrix-used, vector-used, matrix-put, vector-put}
 use Rattle.c_matrix.specs.Slices.{isMatrix, rows}
-use Rattle.c_matrix.specs.Told.{matrixTold, scalarTold, testTold}
+use Rattle.c_matrix.specs.Told.{single, matrixTold, scalarTold, testTold}
 
 -- a call that asks nothing
 pub none : {C K : Type 0} → C → K → Unit {0}
@@ -170,6 +170,27 @@ pub answer-handed : {T : Bool} {p q : ℕ} {o : List Float} {a₀ a : Answer Mat
     → y ≡ given o (if-sized T (mapped joined a))
 answer-handed {T} {p} {q} {o} {a₀} {a} t w f s h g =
     told (matrixTold p q) (λ b. if-sized b (mapped joined a)) o t (h ∙ ap asMatrix f) (matrix-told p q a s) (g (w .is))
+
+-- ---- a matrix of one number
+pub set-single : (o : List Float) (x : Float) → length o ≡ 1 → set o 0 x ≡ single x
+set-single [] x h = absurd (omega arith)
+set-single (y ∷ []) x h = refl
+set-single (y ∷ z ∷ o) x h = absurd (omega arith)
+
+one-told : (x : Answer Float) → mapped single (scalarTold (asScalar x)) ≡ mapped joined (mapped oneByOne x)
+one-told (refused k) = refl
+one-told (answered x) = refl
+
+pub one-long : {n : ℕ} {b : List Float} → Whole n n b → n ≡ 1 → length b ≡ 1
+one-long w e = w .long ∙ ap (λ (n : ℕ). n * n) e
+
+-- F of it, which is n by n, is x
+pub number-answered : {T : Bool} {n : ℕ} (F : ℕ → Matrix → Answer Matrix) (a o : List Float) (x : Answer Float) {m : ScalarResult} {y : ℕ × List Float}
+    → T ≡ true → n ≡ 1 → F 1 (rows 1 1 a) ≡ mapped oneByOne x → m ≡ asScalar x → y ≡ given o (mapped single (scalarTold m))
+    → y ≡ given o (if-sized T (mapped joined (F n (rows n n a))))
+number-answered {T} {n} F a o x t e f h g =
+    told (λ m. mapped single (scalarTold m)) (λ b. if-sized b (mapped joined (F n (rows n n a)))) o t h
+    (one-told x ∙ ap (mapped joined) (sym f) ∙ ap (λ (k : ℕ). mapped joined (F k (rows k k a))) (sym e)) g
 
 -- ---- the tests of functions by value are passed
 pub alike-true : (r c : ℕ) → shaped r c ≡ true → alike r c r c ≡ true

@@ -11,7 +11,7 @@ use Rattle.answer.specs.Answer.{Answer, mapped, where-sized, if-sized}
 use Rattle.algebra.specs.Matrix.{cell, zeros, filled, identity, set, transpose, scale, negated, frobNorm, trace, add, sub, equal, mul}
 use Rattle.algebra.specs.Matrix.{matvec, outer, vecAdd, vecSub, vecScale, dot, vecNorm}
 use Rattle.algebra.specs.Inverse.{inv}
-use Rattle.algebra.specs.Cholesky.{choleskyOf}
+use Rattle.algebra.specs.Cholesky.{cholesky}
 use Rattle.matrix.specs.Size.{inside}
 use Rattle.layout.specs.Layout.{joined}
 use Rattle.c_matrix.specs.Slices.{isMatrix, isVector, rows}
@@ -50,7 +50,7 @@ abbrev pub invIn : ℕ → Slice → ℕ → Answer Slice
 invIn n a k = if-sized (isMatrix n n (length a) && isMatrix n n k) (mapped joined (inv n (rows n n a)))
 
 abbrev pub choleskyIn : ℕ → Slice → ℕ → Answer Slice
-choleskyIn n a k = if-sized (isMatrix n n (length a) && isMatrix n n k) (mapped joined (choleskyOf n (rows n n a)))
+choleskyIn n a k = if-sized (isMatrix n n (length a) && isMatrix n n k) (mapped joined (cholesky n (rows n n a)))
 
 -- ---- cells: row i and column j, from 0, lie inside
 abbrev pub getIn : ℕ → ℕ → ℕ → ℕ → Slice → Answer Float
@@ -69,8 +69,11 @@ subIn r c a b k = where-sized (isMatrix r c (length a) && (isMatrix r c (length 
 abbrev pub eqIn : ℕ → ℕ → Slice → Slice → Answer Bool
 eqIn r c a b = where-sized (isMatrix r c (length a) && isMatrix r c (length b)) (equal r c (rows r c a) (rows r c b))
 
+abbrev pub productIn : ℕ → ℕ → ℕ → Slice → Slice → Slice
+productIn r m c a b = joined (mul r m c (rows r m a) (rows m c b))
+
 abbrev pub mulIn : ℕ → ℕ → ℕ → Slice → Slice → ℕ → Answer Slice
-mulIn r m c a b k = where-sized (isMatrix r m (length a) && (isMatrix m c (length b) && isMatrix r c k)) (joined (mul r m c (rows r m a) (rows m c b)))
+mulIn r m c a b k = where-sized (isMatrix r m (length a) && (isMatrix m c (length b) && isMatrix r c k)) (productIn r m c a b)
 
 -- ---- vectors
 abbrev pub matvecIn : ℕ → ℕ → Slice → Slice → ℕ → Answer Slice

@@ -1,6 +1,6 @@
 -- What a result by value tells: the answer for the caller's place. Definitions only.
 use Prim.Native.Nat.{ℕ}
-use mathlib.Core.List.{List}
+use mathlib.Core.List.{List, [], _∷_}
 use mathlib.Core.Bool.{Bool}
 use lib.Ieee.{Float}
 use Rattle.answer.specs.declared.Status.{Status}
@@ -18,6 +18,10 @@ use Rattle.layout.specs.Layout.{joined}
 abbrev pub toldAs : {A : Type 0} → Status → A → Answer A
 toldAs Done a = answered a
 toldAs (Refused k) a = refused k
+
+-- a matrix of one number, as a slice
+abbrev pub single : Float → List Float
+single x = x ∷ []
 
 -- the used part, r rows of c numbers
 abbrev pub matrixTold : ℕ → ℕ → MatrixResult → Answer (List Float)

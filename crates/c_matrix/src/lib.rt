@@ -3,10 +3,11 @@
 ghost use mathlib.Core.Path.{_≡_};
 ghost use mathlib.Core.Bool.{true, _&&_};
 ghost use lib.ListN.{length};
+ghost use Rattle.answer.specs.Answer.{mapped};
 ghost use Rattle.answer.specs.Told.{given};
 ghost use Rattle.algebra.specs.Array.{cut, used};
 ghost use Rattle.c_matrix.specs.Slices.{isMatrix, isVector, rows};
-ghost use Rattle.c_matrix.specs.Told.{matrixTold, scalarTold, testTold};
+ghost use Rattle.c_matrix.specs.Told.{single, matrixTold, scalarTold, testTold};
 use answer::Status;
 use matrix::MatrixResult;
 use matrix::ScalarResult;
@@ -83,6 +84,20 @@ fn give_matrix(out: &mut [f64], m: MatrixResult, r: usize, c: usize) -> u8
             0
         }
         Status::Refused(number) => number,
+    }
+}
+
+// The same of a matrix of one number.
+fn give_number(out: &mut [f64], x: ScalarResult) -> u8
+    requires { ⌜ length (now out) ≡ 1 ⌝ }
+    ensures { λ t. ⌜ (t, now (out .exit)) ≡ given (now (out .entry)) (mapped single (scalarTold x)) ⌝ }
+{
+    match x {
+        ScalarResult::Value(v) => {
+            out[0] = v;
+            0
+        }
+        ScalarResult::Refused(number) => number,
     }
 }
 

@@ -1,20 +1,27 @@
 // src/core/matrix.rs, the functions on matrices: each is a slice of its cells by rows. Refused with 1: a size, or a slice of
 // another length. What has a kernel goes from slice to slice; the rest goes through the functions by value.
 ghost use mathlib.Core.Path.{_≡_};
+ghost use Prim.Native.Nat.{_*_};
 ghost use lib.ListN.{length};
 ghost use Rattle.answer.specs.Told.{given};
 ghost use Rattle.c_matrix.specs.Calls.{transposeIn, scaleIn, negIn, frobNormIn, traceIn, invIn, choleskyIn};
-ghost use Rattle.c_matrix.specs.Calls.{addIn, subIn, eqIn, mulIn};
+ghost use Rattle.matrix.specs.Size.{count};
+ghost use Rattle.c_matrix.specs.Calls.{addIn, subIn, eqIn, productIn, mulIn};
 use crate::are_three_matrices;
 use crate::are_two_matrices;
 use crate::give_matrix;
+use crate::give_number;
 use crate::give_scalar;
 use crate::give_test;
 use crate::is_matrix;
 use crate::rows_in;
 use layout::matrix_at;
 use layout::put_matrix;
+use layout::put_vector;
+use layout::vector_at;
+use matrix::Size;
 use matrix::kernel;
+use matrix::number;
 use matrix::size_of;
 
 // ---- one matrix
@@ -79,6 +86,9 @@ pub fn matrix_inv(n: usize, a: &[f64], out: &mut [f64]) -> u8
     ensures { λ t. ⌜ (t, now (out .exit)) ≡ given (now (out .entry)) (invIn n (now (a .entry)) (length (now (out .entry)))) ⌝ }
 {
     if are_two_matrices(n, n, a.len(), n, n, out.len()) {
+        if n == 1 {
+            return give_number(out, inverse::inverse_number(a[0]));
+        }
         let s = size_of(n);
         let x = matrix_at(a, 0, s, s);
         give_matrix(out, inverse::inverse_of(&x, s), n, n)
@@ -92,6 +102,9 @@ pub fn matrix_cholesky(n: usize, a: &[f64], out: &mut [f64]) -> u8
     ensures { λ t. ⌜ (t, now (out .exit)) ≡ given (now (out .entry)) (choleskyIn n (now (a .entry)) (length (now (out .entry)))) ⌝ }
 {
     if are_two_matrices(n, n, a.len(), n, n, out.len()) {
+        if n == 1 {
+            return give_number(out, cholesky::diagonal_root(a[0] - 0.0));
+        }
         let s = size_of(n);
         let x = matrix_at(a, 0, s, s);
         give_matrix(out, cholesky::factor_of(&x, s), n, n)
@@ -147,6 +160,26 @@ pub fn matrix_eq(r: usize, c: usize, a: &[f64], b: &[f64], out: &mut bool) -> u8
     }
 }
 
+// a, r rows of k numbers, times b, k rows of c, into out: row by row, so that no matrix is stored in between. A row of b that
+// is not there is read as all +0, and takes no part.
+fn put_product(out: &mut [f64], a: &[f64], b: &[f64], r: Size, k: Size, c: Size)
+    requires { ⌜ (length (now out) ≡ count r * count c) × (length (now a) ≡ count r * count k) × (length (now b) ≡ count k * count c) ⌝ }
+    ensures { λ u. ⌜ now (out .exit) ≡ productIn (count r) (count k) (count c) (now (a .entry)) (now (b .entry)) ⌝ }
+{
+    let height = number(r);
+    let inner = number(k);
+    let width = number(c);
+    let b0 = vector_at(b, 0, c);
+    let b1 = vector_at(b, width, c);
+    let b2 = vector_at(b, 2 * width, c);
+    let b3 = vector_at(b, 3 * width, c);
+    for i in 0..height {
+        let v = vector_at(a, i * inner, k);
+        let p = kernel::combination(v, b0, b1, b2, b3, k);
+        put_vector(out, i * width, p, c);
+    }
+}
+
 // r rows and k columns times k rows and c columns.
 pub fn matrix_matmul(r: usize, k: usize, c: usize, a: &[f64], b: &[f64], out: &mut [f64]) -> u8
     ensures { λ t. ⌜ (t, now (out .exit)) ≡ given (now (out .entry)) (mulIn r k c (now (a .entry)) (now (b .entry)) (length (now (out .entry)))) ⌝ }
@@ -155,10 +188,7 @@ pub fn matrix_matmul(r: usize, k: usize, c: usize, a: &[f64], b: &[f64], out: &m
         let rows = size_of(r);
         let inner = size_of(k);
         let cols = size_of(c);
-        let x = matrix_at(a, 0, rows, inner);
-        let y = matrix_at(b, 0, inner, cols);
-        let z = kernel::product(&x, &y, rows, inner, cols);
-        put_matrix(out, 0, &z, rows, cols);
+        put_product(out, a, b, rows, inner, cols);
         0
     } else {
         1

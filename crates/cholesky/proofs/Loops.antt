@@ -1,22 +1,25 @@
 -- The two loops of the factorization: over the cells of a row and over the rows. Assumes nothing.
 use mathlib.Core.Path.{_≡_, refl, sym, ap, _∙_, subst⁻¹}
+use mathlib.Core.Bool.{cond}
 use mathlib.Core.List.{List, [], _∷_, _++_}
 use Prim.Native.Nat.{ℕ, _+_, _≤_, _<_}
 use native.Mathlib.Decide.{le-ind}
 use native.Mathlib.Numerals.{add-one}
 use native.Mathlib.Omega.{arith}
 use lib.ListN.{length, set, replicate, length-append}
+use lib.Dec.{eqb}
 use lib.Ieee.{Float, nan}
 use Rattle.scalar.specs.Number.{_⊖_, _⊘_, +0}
 use Rattle.answer.specs.Answer.{Answer, refused, answered, and-then, mapped}
-use Rattle.answer.specs.Table.{padTo}
+use Rattle.answer.specs.Table.{table, padTo}
 use Rattle.algebra.specs.Matrix.{Vector, Matrix, at, row, cell, dot}
 use Rattle.algebra.specs.Array.{used, padRow, pad}
-use Rattle.answer.proofs.Tables.{getD-padTo, set-padTo, padTo-padTo}
+use Rattle.answer.proofs.Tables.{table-getD, getD-padTo, set-padTo, padTo-padTo, length-padTo}
 use Rattle.algebra.proofs.Matrices.{Shape}
 use Rattle.algebra.proofs.Vectors.{dot-ext}
-use Rattle.algebra.specs.Cholesky.{diagonalOf, leftCells, factorRow, factorRows, choleskyOf}
+use Rattle.algebra.specs.Cholesky.{diagonalOf, leftCells, factorRow, factorRows, cholesky}
 use Rattle.algebra.proofs.Arrays.{set-pad, cell-pad}
+use Rattle.matrix.proofs.Kernels.{row-with}
 use Rattle.algebra.proofs.Factors.{length-left, left-ext, shape-rows, cholesky-used}
 
 -- The loop over a row has made the first j of its i cells left of the diagonal: its invariant
@@ -88,6 +91,11 @@ module _ {n : ℕ} {a : Matrix} {i : ℕ} {l : List (List Float)} (e : Factoring
       let at-left = at-padRow (row a i) L i in
       q ∙ ap (λ (u : Vector). dot i u u) same-left ∙ dot-ext i (padRow left) (padRow left) left left at-left at-left
 
+  four-left : table 4 (λ j. at (padRow left) j) ≡ padRow left
+  four-left =
+      let full : length (padRow left) ≡ 4 = length-padTo 4 +0 left (omega (arith, length-left (row a i) L i, e .most)) in
+      ap (λ (k : ℕ). table k (λ j. at (padRow left) j)) (sym full) ∙ table-getD (padRow left) nan
+
   -- the first i + 1 rows, from what is answered for the diagonal
   abbrev and-row : Answer Float → Answer Matrix
   and-row o = mapped (λ r. L ++ r ∷ []) (mapped (λ x. padTo n +0 (left ++ x ∷ [])) o)
@@ -100,12 +108,18 @@ module _ {n : ℕ} {a : Matrix} {i : ℕ} {l : List (List Float)} (e : Factoring
       ∙ ap (λ (x : Float). and-row (diagonalOf (cell a i i ⊖ x))) (sym same-sum)
       ∙ ap and-row d
 
-  pub factoring-more : {x : Float} → diagonalOf (cell a i i ⊖ s) ≡ answered x → Factoring n a (i + 1) (set l i (set v i x))
-  factoring-more {x} d =
+  pub factoring-more : {x : Float} {r : List Float} → diagonalOf (cell a i i ⊖ s) ≡ answered x → r ≡ table 4 (λ j. cond (eqb i j) x (at v j)) → Factoring n a (i + 1) (set l i r)
+  factoring-more {x} d p =
       let w = left ++ x ∷ [] in
       let r = padTo n +0 w in
       let room : length w ≤ n = omega (arith, length-append left (x ∷ []), length-left (row a i) L i) in
-      let stored : set v i x ≡ padRow r = (λ t. set (same-left t) i x) ∙ set-left (row a i) L i x (omega arith) ∙ sym (padTo-padTo 4 n +0 w room (e .most)) in
+      let stored =
+      p
+      ∙ ap (λ (u : Vector). table 4 (λ j. cond (eqb i j) x (at u j))) same-left
+      ∙ row-with (λ j. at (padRow left) j) i x (omega arith)
+      ∙ ap (λ (u : Vector). set u i x) four-left
+      ∙ set-left (row a i) L i x (omega arith)
+      ∙ sym (padTo-padTo 4 n +0 w room (e .most)) in
       record {
         most = e .most;
         within = omega arith;
@@ -118,17 +132,17 @@ module _ {n : ℕ} {a : Matrix} {i : ℕ} {l : List (List Float)} (e : Factoring
       }
 
   -- a refusal stands
-  pub factoring-refused : {k : ℕ} → diagonalOf (cell a i i ⊖ s) ≡ refused k → choleskyOf n a ≡ refused k
-  unfolding choleskyOf factorRows
+  pub factoring-refused : {k : ℕ} → diagonalOf (cell a i i ⊖ s) ≡ refused k → cholesky n a ≡ refused k
+  unfolding cholesky factorRows
   factoring-refused {k} d =
       le-ind {n = i + 1} (λ m. factorRows n a m ≡ refused k) (next d)
       (λ m h r. ap (λ (f : Answer Matrix). and-then f (λ M. mapped (λ u. M ++ u ∷ []) (factorRow n (row a m) M m))) r)
       n (omega arith)
 
-pub factoring-all : {n : ℕ} {a : Matrix} {i : ℕ} {l : List (List Float)} (e : Factoring n a i l) → n ≤ i → choleskyOf n a ≡ answered (e .rows)
-unfolding choleskyOf
+pub factoring-all : {n : ℕ} {a : Matrix} {i : ℕ} {l : List (List Float)} (e : Factoring n a i l) → n ≤ i → cholesky n a ≡ answered (e .rows)
+unfolding cholesky
 factoring-all {n} {a} {i} e h = let same : n ≡ i = omega arith in ap (factorRows n a) same ∙ e .so-far
 
 -- what the loop has made of the whole array for k rows is the factor of the used part, where k is n
-pub factor-at : {k n : ℕ} (a : Matrix) {o : Answer Matrix} → k ≡ n → choleskyOf k a ≡ o → choleskyOf n (used n n a) ≡ o
-factor-at {k} {n} a e p = cholesky-used n a ∙ ap (λ (m : ℕ). choleskyOf m a) (sym e) ∙ p
+pub factor-at : {k n : ℕ} (a : Matrix) {o : Answer Matrix} → k ≡ n → cholesky k a ≡ o → cholesky n (used n n a) ≡ o
+factor-at {k} {n} a e p = cholesky-used n a ∙ ap (λ (m : ℕ). cholesky m a) (sym e) ∙ p

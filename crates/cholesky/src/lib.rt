@@ -11,7 +11,7 @@ ghost use Prim.Native.Nat.{_<_};
 ghost use Rattle.answer.specs.Answer.{if-sized};
 ghost use Rattle.algebra.specs.Matrix.{row};
 ghost use Rattle.algebra.specs.Array.{used, padRow};
-ghost use Rattle.algebra.specs.Cholesky.{diagonalOf, leftCells, choleskyOf};
+ghost use Rattle.algebra.specs.Cholesky.{diagonalOf, leftCells, cholesky as choleskyOf};
 ghost use Rattle.matrix.specs.Size.{count, part, sized};
 ghost use Rattle.matrix.specs.Result.{asMatrix, asScalar};
 
@@ -46,12 +46,11 @@ pub fn factor_of(a: &[[f64; 4]; 4], n: Size) -> MatrixResult
     let rows = matrix::number(n);
     let mut l = [[0.0; 4]; 4];
     for i in 0..rows {
-        let mut v = left_cells(a, &l, i);
+        let v = left_cells(a, &l, i);
         let d = a[i][i] - kernel::dot(&v, &v, i);
         match diagonal_root(d) {
             ScalarResult::Value(x) => {
-                v[i] = x;
-                l[i] = v;
+                l[i] = kernel::row_with(v, i, x);
             }
             ScalarResult::Refused(number) => return matrix::matrix_refused(number),
         }

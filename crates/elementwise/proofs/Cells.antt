@@ -12,14 +12,10 @@ use lib.ListN.{replicate}
 use Rattle.scalar.specs.Number.{_⊗_, +0}
 use Rattle.algebra.specs.Matrix.{cell, mat, sumFrom, sum, filled, scale, trace, squares, every, equal}
 use Rattle.algebra.specs.Array.{cut, used}
-use Rattle.algebra.proofs.Matrices.{sumFrom-ext, sum-ext, mat-ext, cell-mat}
-use Rattle.algebra.proofs.Arrays.{cell-used, both-used}
+use Rattle.algebra.proofs.Matrices.{sumFrom-ext, sum-ext}
+use Rattle.algebra.proofs.Arrays.{cell-used, used-mat, both-used}
 
 -- ---- the used part of what was made for all sixteen cells
-used-mat : (r c : ℕ) (f : ℕ → ℕ → Float) → r ≤ 4 → c ≤ 4 → used r c (mat 4 4 f) ≡ mat r c f
-unfolding used cut
-used-mat r c f hr hc = mat-ext r c (λ i j. cell (mat 4 4 f) i j) f (λ i j hi hj. cell-mat 4 4 f i j (le-trans hi hr) (le-trans hj hc))
-
 pub used-filled : (r c : ℕ) (x : Float) → r ≤ 4 → c ≤ 4 → used r c (replicate 4 (replicate 4 x)) ≡ filled r c x
 unfolding filled
 used-filled r c x hr hc = used-mat r c (λ i j. x) hr hc

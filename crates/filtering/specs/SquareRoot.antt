@@ -10,7 +10,7 @@ use Rattle.answer.specs.Answer.{Answer, mapped, refused-if}
 use Rattle.answer.specs.Table.{table}
 use Rattle.answer.specs.Outcome.{Outcome, unchanged, this, final, only, done, _else-leave_then_, onward}
 use Rattle.algebra.specs.Matrix.{Vector, Matrix, at, row, cell, mat, dot, mul, matvec, transpose, vecAdd, vecScale}
-use Rattle.algebra.specs.Cholesky.{choleskyOf}
+use Rattle.algebra.specs.Cholesky.{cholesky}
 use Rattle.filtering.specs.Filter.{Motion, Sensor, Estimate, predictedState, predictedCovariance}
 
 pub record Factored : Type 0 where
@@ -22,7 +22,7 @@ factored x L = record { state = x; factor = L }
 
 -- of an estimate, for `new` and `reset`: refused with 4 where it has no factor
 unfoldable pub ofEstimate : ℕ → Estimate → Answer Factored
-ofEstimate n e = mapped (factored (e .state)) (choleskyOf n (e .covariance))
+ofEstimate n e = mapped (factored (e .state)) (cholesky n (e .covariance))
 
 -- L Lᵀ
 unfoldable pub covariance : ℕ → Factored → Matrix
@@ -32,7 +32,7 @@ covariance n f = mul n n n (f .factor) (transpose n n (f .factor))
 unfoldable pub predict : Motion → Vector → Factored → Outcome Factored (Unit {0})
 predict M u f =
     let x = predictedState M u (f .state) in
-    choleskyOf M.n (predictedCovariance M (covariance M.n f)) else-leave (this (factored x (f .factor))) then λ L.
+    cholesky M.n (predictedCovariance M (covariance M.n f)) else-leave (this (factored x (f .factor))) then λ L.
     done tt (factored x L)
 
 -- ---- the downdate of L by v, column by column; what is told is v as the columns so far have turned it.

@@ -23,7 +23,7 @@ use Rattle.matrix.proofs.Sizes.{is-count}
 use Rattle.matrix.proofs.Results.{if-answered}
 use Rattle.answer.proofs.Tables.{getD-table, table-ext}
 use Rattle.algebra.proofs.Matrices.{Shape, shape-identity}
-use Rattle.algebra.proofs.Arrays.{cell-used, identity-used, used-all}
+use Rattle.algebra.proofs.Arrays.{cell-used, identity-used, used-all, used-four}
 use Rattle.algebra.specs.Inverse.{noPivot, pivotRow, swapped, scaledRow, reduced, Augmented, _∣_, exchanged, cleared, column, columns, inv}
 use Rattle.inverse.specs.Rows.{Swap, Scale, Reduce, Clear}
 use Rattle.answer.proofs.Answers.{if-true, if-false}
@@ -83,10 +83,6 @@ pub record Sweeping (n : ℕ) (A : Matrix) (c : ℕ) (l r : Matrix) : Type 0 whe
   pub right : length r ≡ 4
   pub is : columns n c A ≡ answered (used n n l ∣ used n n r)
 
-copy-used : (n : ℕ) (a : Matrix) → n ≤ 4 → used n n (table 4 (λ i. row a i)) ≡ used n n a
-unfolding used
-copy-used n a four = table-ext n _ _ (λ i h. ap (cut n) (getD-table 4 (λ i. row a i) i [] (le-trans h four)))
-
 pub sweeping-none : (n : ℕ) (a r : Matrix) → n ≤ 4 → r ≡ identity 4 → Sweeping n (used n n a) 0 (table 4 (λ i. row a i)) r
 unfolding columns
 sweeping-none n a r four e =
@@ -95,7 +91,7 @@ sweeping-none n a r four e =
       within = omega arith;
       left = refl;
       right = ap length e ∙ shape-identity 4 .rows;
-      is = sym (λ k. answered (copy-used n a four k ∣ (ap (used n n) e ∙ identity-used n four) k));
+      is = sym (λ k. answered (used-four n n a four k ∣ (ap (used n n) e ∙ identity-used n four) k));
     }
 
 -- a refusal stands
@@ -136,11 +132,9 @@ sweeping-all {n} {A} {c} e h =
     let same : n ≡ c = omega arith in
     ap (mapped (λ w. w .right)) (ap (λ (i : ℕ). columns n i A) same ∙ e .is)
 
--- p is the used part of the right array, as the code hands it over; m is another name of n
-pub sweeping-out : {n m : ℕ} (a : Matrix) {c : ℕ} {l r p : Matrix} → Sweeping n (used n n a) c l r → n ≤ c → n ≡ m → p ≡ pad (used m m r)
-    → matrixResult Done p ≡ asMatrix (inv m (used m m a))
-sweeping-out {n} {m} a {c} {l} {r} e h same q =
-    ap (matrixResult Done) (q ∙ ap (λ (k : ℕ). pad (used k k r)) (sym same)) ∙ ap asMatrix (sym (sweeping-all e h)) ∙ inv-at a same
+-- p is the used part of the right array, as the code hands it over
+pub sweeping-out : {n : ℕ} {A : Matrix} {c : ℕ} {l r p : Matrix} → Sweeping n A c l r → n ≤ c → p ≡ pad (used n n r) → matrixResult Done p ≡ asMatrix (inv n A)
+sweeping-out e h q = ap (matrixResult Done) q ∙ ap asMatrix (sym (sweeping-all e h))
 
 -- ---- out of the entry: s is the size of n, which is tested
 pub inv-sized : (n : ℕ) {s : Size} (a : Matrix) {w : MatrixResult} → sized n ≡ true → s ≡ sizeOf n → w ≡ asMatrix (inv (count s) (part s s a))

@@ -87,3 +87,7 @@ module _ {f : Vector} {a : Matrix} {n c i : ℕ} {l : Matrix} (e : Reducing f a 
             ∙ sym (λ t. cond (eqb k c) (cell-used n n a c j hc hj t) (cell-used n n a k j hk hj t ⊖ at-cut n f k hk t ⊗ cell-used n n a c j hc hj t)));
         long = ap length (e .is) ∙ length-filled i (reducedRow f a c) a (le-trans (e .within) long) ∙ fits;
       }
+
+-- the number of rows under another name
+pub reduced-renamed : {n k c : ℕ} {f : Vector} {a l : Matrix} → n ≡ k → Reduce n c f a l → Reduce k c f a l
+reduced-renamed {n} {k} {c} {f} {a} {l} e r = subst (λ (m : ℕ). Reduce m c f a l) e r

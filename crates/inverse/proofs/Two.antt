@@ -1,5 +1,5 @@
 -- The inverse at the sizes 1 and 2, written out: what the definition comes to there. Assumes nothing.
-use mathlib.Core.Path.{_≡_, refl, ap, _∙_}
+use mathlib.Core.Path.{_≡_, refl, sym, ap, _∙_}
 use mathlib.Core.Bool.{Bool, true, false, cond}
 use Prim.Native.Nat.{ℕ}
 use lib.Ieee.{Float, lt}
@@ -59,7 +59,19 @@ module _ (A : Matrix) where
   choice true = refl
   choice false = refl
 
-pub two-is : (a b c d : Float) → inv 2 (twoByTwo a b c d)
+two-is : (a b c d : Float) → inv 2 (twoByTwo a b c d)
     ≡ cond (lt (abs a) (abs c)) (fromDiagonal (twoByTwo c d a b) (twoByTwo +0 one one +0)) (fromDiagonal (twoByTwo a b c d) (twoByTwo one +0 +0 one))
 unfolding inv columns pivotRow column exchanged swapped identity from fromDiagonal
 two-is a b c d = choice (twoByTwo a b c d) (lt (abs a) (abs c))
+
+-- the rows exchanged or not, number by number
+module _ (a b c d : Float) where
+  abbrev pub picked : Bool → Answer Matrix
+  picked t = fromDiagonal (twoByTwo (cond t c a) (cond t d b) (cond t a c) (cond t b d)) (twoByTwo (cond t +0 one) (cond t one +0) (cond t one +0) (cond t +0 one))
+
+  each : (t : Bool) → picked t ≡ cond t (fromDiagonal (twoByTwo c d a b) (twoByTwo +0 one one +0)) (fromDiagonal (twoByTwo a b c d) (twoByTwo one +0 +0 one))
+  each true = refl
+  each false = refl
+
+  pub exchange-two : {t : Bool} → t ≡ lt (abs a) (abs c) → picked t ≡ inv 2 (twoByTwo a b c d)
+  exchange-two {t} e = ap picked e ∙ each (lt (abs a) (abs c)) ∙ sym (two-is a b c d)

@@ -1,7 +1,7 @@
 // `inv` of src/core/matrix.rs: Gauss and Jordan's elimination with partial pivoting, in place on two arrays of rows.
 // Cells outside the used n by n part are ignored on entry, take part in no used cell, and are +0 in the result.
 ghost use mathlib.Core.Path.{_≡_};
-ghost use Prim.Native.Nat.{_≤_, _<_, _-_, suc};
+ghost use Prim.Native.Nat.{_<_, _-_, suc};
 ghost use lib.ListN.{length};
 ghost use lib.Ieee.{lt};
 ghost use Rattle.scalar.specs.Number.{abs as absOf};
@@ -20,6 +20,7 @@ use matrix::ScalarResult;
 use matrix::Size;
 use matrix::VectorResult;
 use matrix::kernel;
+use matrix::number;
 
 // ---- the pivot
 
@@ -31,13 +32,14 @@ fn no_pivot(x: f64) -> bool
 }
 
 // The first row, from the diagonal down, of largest magnitude in column col.
-fn pivot_row(a: &[[f64; 4]; 4], n: usize, col: usize) -> usize
-    requires { ⌜ (n ≤ 4) × (col < n) ⌝ }
-    ensures { λ r. ⌜ (r ≡ pivotRow (now (a .entry)) col (n - suc col)) × (r < n) ⌝ }
+fn pivot_row(a: &[[f64; 4]; 4], n: Size, col: usize) -> usize
+    requires { ⌜ col < count n ⌝ }
+    ensures { λ r. ⌜ (r ≡ pivotRow (now (a .entry)) col (count n - suc col)) × (r < count n) ⌝ }
 {
+    let rows = number(n);
     let mut p = col;
     let mut largest = scalar::ControlScalar::abs(a[col][col]);
-    for i in col + 1..n {
+    for i in col + 1..rows {
         let x = scalar::ControlScalar::abs(a[i][col]);
         if x > largest {
             largest = x;
@@ -76,12 +78,13 @@ fn column_of(m: &[[f64; 4]; 4], col: usize) -> [f64; 4]
 }
 
 // Each row i but col less f[i] times row col.
-fn reduce_rows(m: &mut [[f64; 4]; 4], n: usize, col: usize, f: [f64; 4])
-    requires { ⌜ (n ≤ 4) × (col < n) × (length (now m) ≡ 4) ⌝ }
-    ensures { λ r. ⌜ Reduce n col f (now (m .entry)) (now (m .exit)) ⌝ }
+fn reduce_rows(m: &mut [[f64; 4]; 4], n: Size, col: usize, f: [f64; 4])
+    requires { ⌜ (col < count n) × (length (now m) ≡ 4) ⌝ }
+    ensures { λ r. ⌜ Reduce (count n) col f (now (m .entry)) (now (m .exit)) ⌝ }
 {
+    let rows = number(n);
     let w = m[col];
-    for i in 0..n {
+    for i in 0..rows {
         if i != col {
             let v = m[i];
             let g = f[i];
@@ -98,9 +101,9 @@ fn reduce_rows(m: &mut [[f64; 4]; 4], n: usize, col: usize, f: [f64; 4])
 // ---- the elimination
 
 // Column col of left becomes that of the identity; its pivot is in row p.
-fn clear_column(left: &mut [[f64; 4]; 4], right: &mut [[f64; 4]; 4], n: usize, p: usize, col: usize)
-    requires { ⌜ (n ≤ 4) × (p < n) × (col < n) × (length (now left) ≡ 4) × (length (now right) ≡ 4) ⌝ }
-    ensures { λ r. ⌜ Clear n p col (now (left .entry)) (now (right .entry)) (now (left .exit)) (now (right .exit)) ⌝ }
+fn clear_column(left: &mut [[f64; 4]; 4], right: &mut [[f64; 4]; 4], n: Size, p: usize, col: usize)
+    requires { ⌜ (p < count n) × (col < count n) × (length (now left) ≡ 4) × (length (now right) ≡ 4) ⌝ }
+    ensures { λ r. ⌜ Clear (count n) p col (now (left .entry)) (now (right .entry)) (now (left .exit)) (now (right .exit)) ⌝ }
 {
     swap_rows(left, p, col);
     swap_rows(right, p, col);
@@ -117,15 +120,15 @@ fn clear_column(left: &mut [[f64; 4]; 4], right: &mut [[f64; 4]; 4], n: usize, p
 fn eliminate(a: &[[f64; 4]; 4], n: Size) -> MatrixResult
     ensures { λ r. ⌜ r ≡ asMatrix (invOf (count n) (part n n (now (a .entry)))) ⌝ }
 {
-    let k = matrix::number(n);
+    let columns = number(n);
     let mut left = [a[0], a[1], a[2], a[3]];
     let mut right = kernel::identity_rows();
-    for col in 0..k {
-        let p = pivot_row(&left, k, col);
+    for col in 0..columns {
+        let p = pivot_row(&left, n, col);
         if no_pivot(left[p][col]) {
             return matrix::matrix_refused(3);
         }
-        clear_column(&mut left, &mut right, k, p, col);
+        clear_column(&mut left, &mut right, n, p, col);
     }
     matrix::matrix_result(Status::Done, kernel::used_part(&right, n, n))
 }
@@ -182,15 +185,19 @@ fn diagonal_two(a: f64, b: f64, p: f64, q: f64, e: f64, f: f64, g: f64, h: f64) 
     matrix::vector_result(Status::Done, [e * s - u * v, f * s - u * w, v, w])
 }
 
-// The four cells of the inverse of (a, b), (c, d), row by row.
+// The four cells of the inverse of (a, b), (c, d), row by row. The rows are exchanged number by number, and the rest
+// stands once: that is short enough to be inlined.
 pub fn inverse_two(a: f64, b: f64, c: f64, d: f64) -> VectorResult
     ensures { λ r. ⌜ inRows r ≡ asMatrix (invOf 2 (twoByTwo a b c d)) ⌝ }
 {
-    if above(c, a) {
-        diagonal_two(c, d, a, b, 0.0, 1.0, 1.0, 0.0)
-    } else {
-        diagonal_two(a, b, c, d, 1.0, 0.0, 0.0, 1.0)
-    }
+    let t = above(c, a);
+    let e = kernel::pick(t, 0.0, 1.0);
+    let f = kernel::pick(t, 1.0, 0.0);
+    let first = kernel::pick(t, c, a);
+    let right = kernel::pick(t, d, b);
+    let below = kernel::pick(t, a, c);
+    let last = kernel::pick(t, b, d);
+    diagonal_two(first, right, below, last, e, f, f, e)
 }
 
 // Four cells in their rows.

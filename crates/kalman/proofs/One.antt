@@ -6,7 +6,7 @@ use Prim.Native.Nat.{ℕ}
 use lib.Ieee.{Float}
 use Rattle.scalar.specs.Number.{+0}
 use Rattle.answer.specs.declared.Status.the-variants.{Done, Refused}
-use Rattle.answer.specs.Outcome.{Outcome, if-fitting, kept}
+use Rattle.answer.specs.Outcome.{Outcome, if-fitting, standing}
 use Rattle.algebra.specs.Matrix.{Vector, at}
 use Rattle.algebra.specs.Array.{cut}
 use Rattle.matrix.specs.declared.ScalarResult.the-variants as Scalar
@@ -51,8 +51,8 @@ module _ (f : KalmanFilter) (z : Float) where
       go false h = refl
 
   module _ {u : Updated} (e : u ≡ updateOf f four 1) where
-    told : u ≡ record { answer = asVector (updating f (z ∷ []) 1 .told); filter = kept (holding f) f (updating f (z ∷ []) 1 .left) }
-    told = e ∙ λ k. record { answer = asVector (same k .told); filter = kept (holding f) f (same k .left) }
+    told : u ≡ record { answer = asVector (updating f (z ∷ []) 1 .told); filter = standing (holding f) f (updating f (z ∷ []) 1 .left) }
+    told = e ∙ λ k. record { answer = asVector (same k .told); filter = standing (holding f) f (same k .left) }
 
     pub one-answered : u .answer .status ≡ Done → _≡_ {A = UpdatedOne} (record { answer = Scalar.Value (at (u .answer .cells) 0); filter = u .filter }) (updateOneOf f z)
     one-answered s = λ k. record { answer = one-value one-way (λ k. told k .answer) s k; filter = told k .filter }

@@ -4,7 +4,7 @@ use mathlib.Core.List.{List}
 use Prim.Native.Nat.{ℕ}
 use lib.Ieee.{Float}
 use Rattle.answer.specs.Answer.{Answer}
-use Rattle.answer.specs.Outcome.{Outcome, Left, unchanged, this, kept, handed}
+use Rattle.answer.specs.Outcome.{Outcome, Left, unchanged, this, standing, handed}
 use Rattle.algebra.specs.Array.{used, cut, padRow}
 use Rattle.filtering.specs.Filter.{Estimate}
 use Rattle.kalman.specs.declared.KalmanFilter.{KalmanFilter}
@@ -14,7 +14,7 @@ module _ {R T : Type 0} (tell : Answer R → T) (f : KalmanFilter) (o : Outcome 
   pub around : {s : T} {w : List Float × List Float} → (s, w) ≡ handed tell flatsOf (f .x, f .p) o → (s, keeping f w) ≡ handed tell (holding f) f o
   around {s} {w} e = (λ k. (e k .0, keeping f (e k .1))) ∙ go (o .left)
     where
-      go : (l : Left Estimate) → _≡_ {A = T × KalmanFilter} (tell (o .told), keeping f (kept flatsOf (f .x, f .p) l)) (tell (o .told), kept (holding f) f l)
+      go : (l : Left Estimate) → _≡_ {A = T × KalmanFilter} (tell (o .told), keeping f (standing flatsOf (f .x, f .p) l)) (tell (o .told), standing (holding f) f l)
       go unchanged = refl
       go (this e) = refl
 

@@ -3,7 +3,7 @@ use Prim.Native.Nat.{ℕ}
 use mathlib.Core.List.{List, [], _∷_}
 use lib.Ieee.{Float}
 use Rattle.answer.specs.Answer.{Answer, where-sized}
-use Rattle.answer.specs.Outcome.{Outcome, into, if-fitting, kept, handed}
+use Rattle.answer.specs.Outcome.{Outcome, into, if-fitting, standing, handed}
 use Rattle.answer.specs.Told.{statusOf}
 use Rattle.algebra.specs.Matrix.{Vector, Matrix}
 use Rattle.algebra.specs.Array.{cut, used, usedFlat, padRow, pad, flatOfRows}
@@ -38,7 +38,7 @@ flatsOf e = (padRow (e .state), flat (e .covariance))
 
 -- an outcome in the numbers x and p, where it leaves an estimate
 abbrev pub leftIn : {R : Type 0} → List Float → List Float → Outcome Estimate R → List Float × List Float
-leftIn x p o = kept flatsOf (x, p) (o .left)
+leftIn x p o = standing flatsOf (x, p) (o .left)
 
 -- ---- a record of a model and an estimate, and what is given for one in arrays of rows
 abbrev pub recordOf : Motion → Sensor Matrix → Estimate → KalmanFilter

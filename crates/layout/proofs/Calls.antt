@@ -1,7 +1,7 @@
 -- What a reading or a writing hands over: for the functions' proofs its two ways out, and for a caller what it has where there is room. Assumes nothing.
 use mathlib.Core.Path.{_≡_, sym, ap, ap₂, _∙_}
 use mathlib.Core.List.{List, [], _++_}
-use mathlib.Core.Bool.{Bool, true, false}
+use mathlib.Core.Bool.{Bool, true, false, cond}
 use Prim.Native.Nat.{ℕ, _+_, _*_, _≤_, _<_}
 use native.Mathlib.Omega.{arith}
 use lib.ListN.{length, length-append}
@@ -13,9 +13,9 @@ use Rattle.algebra.proofs.Matrices.{shape-mat}
 use Rattle.algebra.proofs.Arrays.{length-cut, shape-used, cut-padRow, used-pad}
 use Rattle.matrix.specs.declared.Size.{Size}
 use Rattle.matrix.specs.Size.{count}
-use Rattle.matrix.proofs.Sizes.{Bounds, bounds}
+use Rattle.matrix.proofs.Sizes.{bounds}
 use Rattle.layout.specs.Layout.{vectorAt, matrixAt, joined, placed, room, vectorIn, matrixIn, putAt, Parts, partRows, partColumns, total, offset, partAt}
-use Rattle.layout.proofs.Places.{room-true}
+use Rattle.layout.proofs.Places.{room-of, room-true}
 use Rattle.layout.proofs.Rows.{length-rows}
 use Rattle.layout.proofs.Parts.{part-within}
 use native.Mathlib.Nat.{mul-le-mul}
@@ -27,32 +27,26 @@ pub length-pair : (n : ℕ) (x : List Float) (p : List (List Float)) → length 
 length-pair n x p = length-append (cut n x) (joined (used n n p)) ∙ ap₂ (λ (i j : ℕ). i + j) (length-cut n x) (length-matrix n n p)
 
 -- ---- sizes as the code has them, numbers
-pub bounds-as : (s : Size) {n : ℕ} → n ≡ count s → Bounds n
-bounds-as s e = let B = bounds s in record { least = omega (arith, e, B); most = omega (arith, e, B) }
-
 pub few : (r c : Size) {l j : ℕ} → l ≡ count r → j ≡ count c → l * j ≤ 16
-few r c d e = mul-le-mul (bounds-as r d .most) (bounds-as c e .most)
+few r c {l} {j} d e =
+    let rows : l ≤ 4 = omega (arith, d, bounds r) in
+    let columns : j ≤ 4 = omega (arith, e, bounds c) in
+    mul-le-mul rows columns
 
--- ---- the two ways out, where t is the test and the sizes are l and j as the code has them
-module _ (k : ℕ) (b : List Float) {t : Bool} where
-  pub vector-found : {j n : ℕ} {v : List Float} → j ≡ n → t ≡ room k j (length b) → t ≡ true → v ≡ padRow (vectorAt j b k) → v ≡ padRow (vectorIn n b k)
-  vector-found {j} d e q p = p ∙ ap padRow (sym (cond-true (vectorAt j b k) [] (sym e ∙ q))) ∙ ap (λ (n : ℕ). padRow (vectorIn n b k)) d
+-- ---- the two ways out, where t is the test of the n numbers, which the code has as j
+module _ (k : ℕ) (b : List Float) {t : Bool} {j n : ℕ} (d : j ≡ n) (e : t ≡ room k j (length b)) where
+  test-is : {x : Bool} → t ≡ x → room k n (length b) ≡ x
+  test-is q = ap (λ (m : ℕ). room k m (length b)) (sym d) ∙ sym e ∙ q
 
-  pub vector-none : {j n : ℕ} → j ≡ n → t ≡ room k j (length b) → t ≡ false → padRow [] ≡ padRow (vectorIn n b k)
-  vector-none {j} d e q = ap padRow (sym (cond-false (vectorAt j b k) [] (sym e ∙ q))) ∙ ap (λ (n : ℕ). padRow (vectorIn n b k)) d
+  pub there-is : t ≡ true → k + n ≤ length b
+  there-is q = room-of k n (length b) (test-is q)
 
-  pub matrix-found : {l j r c : ℕ} {m : List (List Float)} → l ≡ r → j ≡ c → t ≡ room k (l * j) (length b) → t ≡ true → m ≡ pad (matrixAt l j b k)
-      → m ≡ pad (matrixIn r c b k)
-  matrix-found {l} {j} d f e q p = p ∙ ap pad (sym (cond-true (matrixAt l j b k) [] (sym e ∙ q))) ∙ ap₂ (λ (r c : ℕ). pad (matrixIn r c b k)) d f
+  -- what is read or left, x, and what there is else, z
+  pub found : {A : Type 0} (x z : A) {v : A} → t ≡ true → v ≡ x → v ≡ cond (room k n (length b)) x z
+  found x z q p = p ∙ sym (cond-true x z (test-is q))
 
-  pub matrix-none : {l j r c : ℕ} → l ≡ r → j ≡ c → t ≡ room k (l * j) (length b) → t ≡ false → pad [] ≡ pad (matrixIn r c b k)
-  matrix-none {l} {j} d f e q = ap pad (sym (cond-false (matrixAt l j b k) [] (sym e ∙ q))) ∙ ap₂ (λ (r c : ℕ). pad (matrixIn r c b k)) d f
-
-  pub put-there : (l : List Float) {n : ℕ} {b₁ : List Float} → length l ≡ n → t ≡ room k n (length b) → t ≡ true → b₁ ≡ placed k l b → b₁ ≡ putAt k l b
-  put-there l d e q p = p ∙ sym (cond-true (placed k l b) b (ap (λ (n : ℕ). room k n (length b)) d ∙ sym e ∙ q))
-
-  pub put-nowhere : (l : List Float) {n : ℕ} → length l ≡ n → t ≡ room k n (length b) → t ≡ false → b ≡ putAt k l b
-  put-nowhere l d e q = sym (cond-false (placed k l b) b (ap (λ (n : ℕ). room k n (length b)) d ∙ sym e ∙ q))
+  pub missed : {A : Type 0} (x z : A) → t ≡ false → z ≡ cond (room k n (length b)) x z
+  missed x z q = sym (cond-false x z (test-is q))
 
 -- ---- what a caller has where there is room: the sizes of the call, as l and j, are its own, r and c or n
 module _ (k : ℕ) (b : List Float) where

@@ -90,17 +90,17 @@ copying-all {k} {a} {b} {l} {i} e h =
 -- ---- numbers written out
 
 -- n of the four numbers from number k on, where n is j
-pub read-out : (b : List Float) (k j : ℕ) {n : ℕ} → n ≡ j
+pub read-out : (b : List Float) (k j : ℕ) {n : ℕ} → j ≡ n
     → padRow (cut j (at b (k + 0) ∷ at b (k + 1) ∷ at b (k + 2) ∷ at b (k + 3) ∷ [])) ≡ padRow (vectorAt j b k)
     → padRow (cut j (at b k ∷ at b (k + 1) ∷ at b (k + 2) ∷ at b (k + 3) ∷ [])) ≡ padRow (vectorAt n b k)
 read-out b k j e h =
     let first : k ≡ k + 0 = omega arith in
-    ap (λ (i : ℕ). padRow (cut j (at b i ∷ at b (k + 1) ∷ at b (k + 2) ∷ at b (k + 3) ∷ []))) first ∙ h ∙ ap (λ (m : ℕ). padRow (vectorAt m b k)) (sym e)
+    ap (λ (i : ℕ). padRow (cut j (at b i ∷ at b (k + 1) ∷ at b (k + 2) ∷ at b (k + 3) ∷ []))) first ∙ h ∙ ap (λ (m : ℕ). padRow (vectorAt m b k)) e
 
 -- the first one to four numbers of v, set in b one after another
 module _ (b v : List Float) (k : ℕ) where
-  pub written : {j n : ℕ} {l : List Float} → n ≡ j → l ≡ placed k (cut j v) b → l ≡ placed k (cut n v) b
-  written e h = h ∙ ap (λ (m : ℕ). placed k (cut m v) b) (sym e)
+  pub written : {j n : ℕ} {l : List Float} → j ≡ n → l ≡ placed k (cut j v) b → l ≡ placed k (cut n v) b
+  written e h = h ∙ ap (λ (m : ℕ). placed k (cut m v) b) e
 
   pub write-one : k + 0 < length b → set b k (at v 0) ≡ placed k (cut 1 v) b
   unfolding cut

@@ -4,7 +4,7 @@ ghost use mathlib.Core.Path.{_≡_};
 ghost use mathlib.Core.List.{_++_};
 ghost use Prim.Native.Nat.{_+_, _*_, _≤_};
 ghost use lib.ListN.{length};
-ghost use Rattle.algebra.specs.Array.{cut, used, padRow, pad};
+ghost use Rattle.algebra.specs.Array.{padRow, pad};
 ghost use Rattle.matrix.specs.Size.{count, front, part};
 ghost use Rattle.layout.specs.Layout.{vectorAt, matrixAt, joined, placed, room, vectorIn, matrixIn, putAt};
 ghost use Rattle.layout.specs.Promise.{Layouts};
@@ -26,29 +26,32 @@ fn is_room(k: usize, n: usize, len: usize) -> bool
 // ---- numbers out of a slice
 
 // Written out for each size: a loop of so few turns costs more than its numbers.
-fn read_vector(b: &[f64], k: usize, n: usize) -> [f64; 4]
-    requires { ⌜ (1 ≤ n) × (n ≤ 4) × (k + n ≤ length (now b)) ⌝ }
-    ensures { λ v. ⌜ v ≡ padRow (vectorAt n (now (b .entry)) k) ⌝ }
+fn read_vector(b: &[f64], k: usize, n: Size) -> [f64; 4]
+    requires { ⌜ k + count n ≤ length (now b) ⌝ }
+    ensures { λ v. ⌜ v ≡ padRow (vectorAt (count n) (now (b .entry)) k) ⌝ }
 {
-    if n == 1 {
+    let numbers = number(n);
+    if numbers < 2 {
         return [b[k], 0.0, 0.0, 0.0];
     }
-    if n == 2 {
+    if numbers < 3 {
         return [b[k], b[k + 1], 0.0, 0.0];
     }
-    if n == 3 {
+    if numbers < 4 {
         return [b[k], b[k + 1], b[k + 2], 0.0];
     }
     [b[k], b[k + 1], b[k + 2], b[k + 3]]
 }
 
-fn read_matrix(b: &[f64], k: usize, r: usize, c: usize) -> [[f64; 4]; 4]
-    requires { ⌜ (r ≤ 4) × (1 ≤ c) × (c ≤ 4) × (k + r * c ≤ length (now b)) ⌝ }
-    ensures { λ m. ⌜ m ≡ pad (matrixAt r c (now (b .entry)) k) ⌝ }
+fn read_matrix(b: &[f64], k: usize, r: Size, c: Size) -> [[f64; 4]; 4]
+    requires { ⌜ k + count r * count c ≤ length (now b) ⌝ }
+    ensures { λ m. ⌜ m ≡ pad (matrixAt (count r) (count c) (now (b .entry)) k) ⌝ }
 {
+    let rows = number(r);
+    let columns = number(c);
     let mut out = [[0.0; 4]; 4];
-    for i in 0..r {
-        out[i] = read_vector(b, k + i * c, c);
+    for i in 0..rows {
+        out[i] = read_vector(b, k + i * columns, c);
     }
     out
 }
@@ -57,9 +60,8 @@ fn read_matrix(b: &[f64], k: usize, r: usize, c: usize) -> [[f64; 4]; 4]
 pub fn vector_at(b: &[f64], k: usize, n: Size) -> [f64; 4]
     ensures { λ v. ⌜ v ≡ padRow (vectorIn (count n) (now (b .entry)) k) ⌝ }
 {
-    let numbers = number(n);
-    if is_room(k, numbers, b.len()) {
-        read_vector(b, k, numbers)
+    if is_room(k, number(n), b.len()) {
+        read_vector(b, k, n)
     } else {
         [0.0; 4]
     }
@@ -69,10 +71,8 @@ pub fn vector_at(b: &[f64], k: usize, n: Size) -> [f64; 4]
 pub fn matrix_at(b: &[f64], k: usize, r: Size, c: Size) -> [[f64; 4]; 4]
     ensures { λ m. ⌜ m ≡ pad (matrixIn (count r) (count c) (now (b .entry)) k) ⌝ }
 {
-    let rows = number(r);
-    let columns = number(c);
-    if is_room(k, rows * columns, b.len()) {
-        read_matrix(b, k, rows, columns)
+    if is_room(k, number(r) * number(c), b.len()) {
+        read_matrix(b, k, r, c)
     } else {
         [[0.0; 4]; 4]
     }
@@ -80,31 +80,34 @@ pub fn matrix_at(b: &[f64], k: usize, r: Size, c: Size) -> [[f64; 4]; 4]
 
 // ---- numbers into a slice, from number k on; every other number stays
 
-fn write_vector(b: &mut [f64], k: usize, v: [f64; 4], n: usize)
-    requires { ⌜ (1 ≤ n) × (n ≤ 4) × (k + n ≤ length (now b)) ⌝ }
-    ensures { λ r. ⌜ now (b .exit) ≡ placed k (cut n v) (now (b .entry)) ⌝ }
+fn write_vector(b: &mut [f64], k: usize, v: [f64; 4], n: Size)
+    requires { ⌜ k + count n ≤ length (now b) ⌝ }
+    ensures { λ r. ⌜ now (b .exit) ≡ placed k (front n v) (now (b .entry)) ⌝ }
 {
+    let numbers = number(n);
     b[k] = v[0];
-    if n == 1 {
+    if numbers < 2 {
         return;
     }
     b[k + 1] = v[1];
-    if n == 2 {
+    if numbers < 3 {
         return;
     }
     b[k + 2] = v[2];
-    if n == 3 {
+    if numbers < 4 {
         return;
     }
     b[k + 3] = v[3];
 }
 
-fn write_matrix(b: &mut [f64], k: usize, m: &[[f64; 4]; 4], r: usize, c: usize)
-    requires { ⌜ (r ≤ 4) × (1 ≤ c) × (c ≤ 4) × (k + r * c ≤ length (now b)) ⌝ }
-    ensures { λ u. ⌜ now (b .exit) ≡ placed k (joined (used r c (now (m .entry)))) (now (b .entry)) ⌝ }
+fn write_matrix(b: &mut [f64], k: usize, m: &[[f64; 4]; 4], r: Size, c: Size)
+    requires { ⌜ k + count r * count c ≤ length (now b) ⌝ }
+    ensures { λ u. ⌜ now (b .exit) ≡ placed k (joined (part r c (now (m .entry)))) (now (b .entry)) ⌝ }
 {
-    for i in 0..r {
-        write_vector(b, k + i * c, m[i], c);
+    let rows = number(r);
+    let columns = number(c);
+    for i in 0..rows {
+        write_vector(b, k + i * columns, m[i], c);
     }
 }
 
@@ -112,9 +115,8 @@ fn write_matrix(b: &mut [f64], k: usize, m: &[[f64; 4]; 4], r: usize, c: usize)
 pub fn put_vector(b: &mut [f64], k: usize, v: [f64; 4], n: Size)
     ensures { λ u. ⌜ now (b .exit) ≡ putAt k (front n v) (now (b .entry)) ⌝ }
 {
-    let numbers = number(n);
-    if is_room(k, numbers, b.len()) {
-        write_vector(b, k, v, numbers);
+    if is_room(k, number(n), b.len()) {
+        write_vector(b, k, v, n);
     }
 }
 
@@ -122,10 +124,8 @@ pub fn put_vector(b: &mut [f64], k: usize, v: [f64; 4], n: Size)
 pub fn put_matrix(b: &mut [f64], k: usize, m: &[[f64; 4]; 4], r: Size, c: Size)
     ensures { λ u. ⌜ now (b .exit) ≡ putAt k (joined (part r c (now (m .entry)))) (now (b .entry)) ⌝ }
 {
-    let rows = number(r);
-    let columns = number(c);
-    if is_room(k, rows * columns, b.len()) {
-        write_matrix(b, k, m, rows, columns);
+    if is_room(k, number(r) * number(c), b.len()) {
+        write_matrix(b, k, m, r, c);
     }
 }
 
@@ -135,8 +135,8 @@ pub fn put_pair(b: &mut [f64], k: usize, x: [f64; 4], p: &[[f64; 4]; 4], n: Size
 {
     let states = number(n);
     if is_room(k, states + states * states, b.len()) {
-        write_vector(b, k, x, states);
-        write_matrix(b, k + states, p, states, states);
+        write_vector(b, k, x, n);
+        write_matrix(b, k + states, p, n, n);
     }
 }
 

@@ -3,20 +3,25 @@ use mathlib.Core.Path.{_≡_, refl, sym, ap, ap₂, _∙_}
 use mathlib.Core.List.{List, [], _∷_}
 use mathlib.Core.Bool.{cond}
 use native.Mathlib.Nat.{le-trans}
-use Prim.Native.Nat.{ℕ, _+_, _≤_, suc}
-use lib.ListN.{replicate}
+use Prim.Native.Nat.{ℕ, zero, suc, _+_, _≤_, _<_}
+use native.Mathlib.Omega.{arith}
+use lib.ListN.{replicate, set}
 use lib.Ieee.{Float, nan}
 use Rattle.scalar.specs.Number.{_⊗_, +0}
 use Rattle.answer.specs.Table.{table}
-use Rattle.algebra.specs.Matrix.{at, cell, sum, sumFrom}
-use Rattle.algebra.specs.Array.{cut, padRow}
+use Rattle.algebra.specs.Matrix.{at, cell, mat, sum, sumFrom}
+use Rattle.algebra.specs.Array.{cut, padRow, pad}
 use Rattle.answer.proofs.Tables.{getD-table, table-ext}
 use Rattle.algebra.proofs.Matrices.{sum-ext}
+use Rattle.algebra.proofs.Arrays.{used-mat, both-used}
 use Rattle.answer.proofs.Choice.{cond-true}
 use Rattle.algebra.proofs.Vectors.{each-cut, pair-cut}
 use borrow.Author.Tests.{le-leb}
-use lib.Dec.{leb}
+use lib.Dec.{eqb, leb}
+use Rattle.matrix.specs.declared.Size.{Size}
+use Rattle.matrix.specs.Size.{count, part}
 use Rattle.matrix.specs.Kernel.{plusScaled, rowTimes}
+use Rattle.matrix.proofs.Sizes.{bounds}
 
 -- ---- v times four columns, written out term by term: term t of each sum is at v t times its number in R t
 abbrev pub sums : List Float → (ℕ → List Float) → ℕ → List Float
@@ -45,6 +50,14 @@ combination-is v R k h e0 e1 e2 e3 p =
     (λ j g. sum-ext k (λ t. at v t ⊗ cell (table 4 R) t j) (λ t. at v t ⊗ at (R t) j)
     (λ t l. ap (λ (r : List Float). at v t ⊗ at r j) (getD-table 4 R t [] (le-trans l h))))
 
+-- ---- a row of four numbers with x in place i
+pub row-with : (f : ℕ → Float) (i : ℕ) (x : Float) → i < 4 → table 4 (λ j. cond (eqb i j) x (f j)) ≡ set (table 4 f) i x
+row-with f zero x h = refl
+row-with f (suc zero) x h = refl
+row-with f (suc (suc zero)) x h = refl
+row-with f (suc (suc (suc zero))) x h = refl
+row-with f (suc (suc (suc (suc i)))) x h = absurd (omega arith)
+
 -- ---- a row of four numbers, of which the first are taken
 
 -- k is c: for a k that is written out, the left side is the row as the code makes it
@@ -64,6 +77,15 @@ leading-each f n v u h e = leading-row n (λ i. f (at v i)) u h e ∙ ap padRow 
 pub leading-pair : (f : Float → Float → Float) (n : ℕ) (v w u : List Float) → n ≤ 4 → u ≡ table 4 (λ i. f (at v i) (at w i))
     → padRow (cut n u) ≡ padRow (table n (λ i. f (at (cut n v) i) (at (cut n w) i)))
 leading-pair f n v w u h e = leading-row n (λ i. f (at v i) (at w i)) u h e ∙ ap padRow (sym (pair-cut f n v w))
+
+-- and of the cells of two matrices, row by row
+pub leading-both : (f : Float → Float → Float) (r c : Size) (a b : List (List Float)) {r0 r1 r2 r3 : List Float}
+    → r0 ≡ table 4 (λ j. f (cell a 0 j) (cell b 0 j)) → r1 ≡ table 4 (λ j. f (cell a 1 j) (cell b 1 j))
+    → r2 ≡ table 4 (λ j. f (cell a 2 j) (cell b 2 j)) → r3 ≡ table 4 (λ j. f (cell a 3 j) (cell b 3 j))
+    → pad (part r c (r0 ∷ r1 ∷ r2 ∷ r3 ∷ [])) ≡ pad (mat (count r) (count c) (λ i j. f (cell (part r c a) i j) (cell (part r c b) i j)))
+leading-both f r c a b e0 e1 e2 e3 =
+    (λ i. pad (part r c (e0 i ∷ e1 i ∷ e2 i ∷ e3 i ∷ [])))
+    ∙ ap pad (used-mat (count r) (count c) (λ i j. f (cell a i j) (cell b i j)) (bounds r .most) (bounds c .most) ∙ sym (both-used f (count r) (count c) a b))
 
 -- what a caller has of the kernel's sum where n is at most 4
 pub dot-sized : (n : ℕ) {x s : Float} → s ≡ cond (leb n 4) x +0 → n ≤ 4 → s ≡ x

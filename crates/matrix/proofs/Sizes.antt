@@ -40,16 +40,33 @@ count-sizeOf (suc (suc (suc (suc (suc n))))) s = absurd (omega arith)
 pub is-count : {n : ℕ} {s : Size} → sized n ≡ true → s ≡ sizeOf n → count s ≡ n
 is-count {n} e p = ap count p ∙ count-sizeOf n (bounds-of n e)
 
-pub four-of : (n : ℕ) → (n ≡ 1 → ⊥) → (n ≡ 2 → ⊥) → (n ≡ 3 → ⊥) → Four ≡ sizeOf n
-four-of zero a b c = refl
-four-of (suc zero) a b c = absurd (a refl)
-four-of (suc (suc zero)) a b c = absurd (b refl)
-four-of (suc (suc (suc zero))) a b c = absurd (c refl)
-four-of (suc (suc (suc (suc n)))) a b c = refl
+pub sizeOf-count : (s : Size) → s ≡ sizeOf (count s)
+sizeOf-count One = refl
+sizeOf-count Two = refl
+sizeOf-count Three = refl
+sizeOf-count Four = refl
 
--- k is the number of s, and none of 1, 2 and 3
-pub is-four : (s : Size) {k : ℕ} → k ≡ count s → (k ≡ 1 → ⊥) → (k ≡ 2 → ⊥) → (k ≡ 3 → ⊥) → 4 ≡ count s
-is-four s e a b c = omega (arith, bounds s)
+-- ---- a number that was told apart by `<`
+pub exactly : (m : ℕ) {k c : ℕ} → k ≡ c → m ≤ k → k < suc m → m ≡ c
+exactly m e a b = omega arith
+
+pub is-one : (s : Size) {k : ℕ} → k ≡ count s → k < 2 → 1 ≡ count s
+is-one s e h = omega (arith, bounds s)
+
+pub is-four : (s : Size) {k : ℕ} → k ≡ count s → 4 ≤ k → 4 ≡ count s
+is-four s e h = omega (arith, bounds s)
+
+pub one-of : (n : ℕ) → n < 2 → One ≡ sizeOf n
+one-of zero h = refl
+one-of (suc zero) h = refl
+one-of (suc (suc n)) h = absurd (omega arith)
+
+pub four-of : (n : ℕ) → 4 ≤ n → Four ≡ sizeOf n
+four-of (suc (suc (suc (suc n)))) h = refl
+four-of (suc (suc (suc zero))) h = absurd (omega arith)
+four-of (suc (suc zero)) h = absurd (omega arith)
+four-of (suc zero) h = absurd (omega arith)
+four-of zero h = absurd (omega arith)
 
 -- ---- what a test that was passed says
 pub record Sizes (r c : ℕ) : Type 0 where

@@ -17,7 +17,7 @@ count Four = 4
 
 -- the size of a number; a caller has tested that it is one
 abbrev pub sizeOf : ℕ → Size
-sizeOf zero = Four
+sizeOf zero = One
 sizeOf (suc zero) = One
 sizeOf (suc (suc zero)) = Two
 sizeOf (suc (suc (suc zero))) = Three

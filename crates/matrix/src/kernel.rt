@@ -1,12 +1,12 @@
 // The operations behind references, for the crates above: no matrix is copied. A size is 1 to 4 by its type, so nothing here
-// is tested.
+// is tested. Sizes are told apart by `<`: a compiler makes compares of it, and of `==` and `match` a table of jumps.
 use crate::Size;
 use crate::number;
 ghost use mathlib.Core.Path.{_≡_};
 ghost use mathlib.Core.Bool.{cond};
 ghost use mathlib.Core.List.{[], _∷_};
 ghost use Prim.Native.Nat.{_+_, _≤_, _<_};
-ghost use lib.Dec.{leb};
+ghost use lib.Dec.{eqb, leb};
 ghost use Rattle.scalar.specs.Number.{+0};
 ghost use Rattle.answer.specs.Table.{table};
 ghost use Rattle.algebra.specs.Matrix.{at, cell, identity, transpose, add, sub, mul, matvec, vecAdd, vecSub, vecScale, dot as dotOf};
@@ -40,16 +40,34 @@ pub fn leading(v: [f64; 4], n: Size) -> [f64; 4]
     ensures { λ r. ⌜ r ≡ padRow (front n v) ⌝ }
 {
     let k = number(n);
-    if k == 1 {
+    if k < 2 {
         return [v[0], 0.0, 0.0, 0.0];
     }
-    if k == 2 {
+    if k < 3 {
         return [v[0], v[1], 0.0, 0.0];
     }
-    if k == 3 {
+    if k < 4 {
         return [v[0], v[1], v[2], 0.0];
     }
     [v[0], v[1], v[2], v[3]]
+}
+
+// x where t holds, and else y. It compiles to a choice and no jump, so that nothing has to be read back from memory.
+pub fn pick(t: bool, x: f64, y: f64) -> f64
+    ensures { λ r. ⌜ r ≡ cond t x y ⌝ }
+{
+    if t { x } else { y }
+}
+
+// v with x in place i.
+pub fn row_with(v: [f64; 4], i: usize, x: f64) -> [f64; 4]
+    ensures { λ r. ⌜ r ≡ table 4 (λ j. cond (eqb i j) x (at v j)) ⌝ }
+{
+    let r0 = pick(i == 0, x, v[0]);
+    let r1 = pick(i == 1, x, v[1]);
+    let r2 = pick(i == 2, x, v[2]);
+    let r3 = pick(i == 3, x, v[3]);
+    [r0, r1, r2, r3]
 }
 
 // Column j, as a row.
@@ -74,7 +92,7 @@ fn row_plus_scaled(s: [f64; 4], x: f64, v: [f64; 4]) -> [f64; 4]
 
 // The rows r0 to r3, of which k are used, each times its number of v: a sum in each of the four columns, which starts
 // at +0 and goes over the used k terms.
-fn combination(
+pub fn combination(
     v: [f64; 4],
     r0: [f64; 4],
     r1: [f64; 4],
@@ -86,15 +104,15 @@ fn combination(
 {
     let n = number(k);
     let s1 = row_plus_scaled([0.0; 4], v[0], r0);
-    if n == 1 {
+    if n < 2 {
         return s1;
     }
     let s2 = row_plus_scaled(s1, v[1], r1);
-    if n == 2 {
+    if n < 3 {
         return s2;
     }
     let s3 = row_plus_scaled(s2, v[2], r2);
-    if n == 3 {
+    if n < 4 {
         return s3;
     }
     row_plus_scaled(s3, v[3], r3)
@@ -116,16 +134,40 @@ pub fn row_product_transposed(v: [f64; 4], b: &[[f64; 4]; 4], k: Size) -> [f64; 
 
 // ---- matrices
 
+// The first r of four rows, and of each the first c numbers; +0 outside.
+fn leading_rows(
+    r0: [f64; 4],
+    r1: [f64; 4],
+    r2: [f64; 4],
+    r3: [f64; 4],
+    r: Size,
+    c: Size,
+) -> [[f64; 4]; 4]
+    ensures { λ p. ⌜ p ≡ pad (part r c (r0 ∷ r1 ∷ r2 ∷ r3 ∷ [])) ⌝ }
+{
+    let none = [0.0; 4];
+    let rows = number(r);
+    let s0 = leading(r0, c);
+    if rows < 2 {
+        return [s0, none, none, none];
+    }
+    let s1 = leading(r1, c);
+    if rows < 3 {
+        return [s0, s1, none, none];
+    }
+    let s2 = leading(r2, c);
+    if rows < 4 {
+        return [s0, s1, s2, none];
+    }
+    let s3 = leading(r3, c);
+    [s0, s1, s2, s3]
+}
+
 // The r rows and c columns that are used, and +0 outside.
 pub fn used_part(a: &[[f64; 4]; 4], r: Size, c: Size) -> [[f64; 4]; 4]
     ensures { λ p. ⌜ p ≡ pad (part r c (now (a .entry))) ⌝ }
 {
-    let rows = number(r);
-    let mut out = [[0.0; 4]; 4];
-    for i in 0..rows {
-        out[i] = leading(a[i], c);
-    }
-    out
+    leading_rows(a[0], a[1], a[2], a[3], r, c)
 }
 
 // a, of r rows and k columns, times b, of k rows and c columns.
@@ -141,15 +183,15 @@ pub fn product<'a>(
     let none = [0.0; 4];
     let rows = number(r);
     let r0 = leading(row_product(a[0], b, k), c);
-    if rows == 1 {
+    if rows < 2 {
         return [r0, none, none, none];
     }
     let r1 = leading(row_product(a[1], b, k), c);
-    if rows == 2 {
+    if rows < 3 {
         return [r0, r1, none, none];
     }
     let r2 = leading(row_product(a[2], b, k), c);
-    if rows == 3 {
+    if rows < 4 {
         return [r0, r1, r2, none];
     }
     let r3 = leading(row_product(a[3], b, k), c);
@@ -160,24 +202,22 @@ pub fn product<'a>(
 pub fn sum<'a>(a: &'a [[f64; 4]; 4], b: &'a [[f64; 4]; 4], r: Size, c: Size) -> [[f64; 4]; 4]
     ensures { λ p. ⌜ p ≡ pad (add (count r) (count c) (part r c (now (a .entry))) (part r c (now (b .entry)))) ⌝ }
 {
-    let rows = number(r);
-    let mut out = [[0.0; 4]; 4];
-    for i in 0..rows {
-        out[i] = leading(row_sum(a[i], b[i]), c);
-    }
-    out
+    let r0 = row_sum(a[0], b[0]);
+    let r1 = row_sum(a[1], b[1]);
+    let r2 = row_sum(a[2], b[2]);
+    let r3 = row_sum(a[3], b[3]);
+    leading_rows(r0, r1, r2, r3, r, c)
 }
 
 // a - b.
 pub fn difference<'a>(a: &'a [[f64; 4]; 4], b: &'a [[f64; 4]; 4], r: Size, c: Size) -> [[f64; 4]; 4]
     ensures { λ p. ⌜ p ≡ pad (sub (count r) (count c) (part r c (now (a .entry))) (part r c (now (b .entry)))) ⌝ }
 {
-    let rows = number(r);
-    let mut out = [[0.0; 4]; 4];
-    for i in 0..rows {
-        out[i] = leading(row_difference(a[i], b[i]), c);
-    }
-    out
+    let r0 = row_difference(a[0], b[0]);
+    let r1 = row_difference(a[1], b[1]);
+    let r2 = row_difference(a[2], b[2]);
+    let r3 = row_difference(a[3], b[3]);
+    leading_rows(r0, r1, r2, r3, r, c)
 }
 
 // The identity of four rows.
@@ -195,12 +235,7 @@ pub fn identity_rows() -> [[f64; 4]; 4]
 pub fn transposed(a: &[[f64; 4]; 4], r: Size, c: Size) -> [[f64; 4]; 4]
     ensures { λ p. ⌜ p ≡ pad (transpose (count r) (count c) (part r c (now (a .entry)))) ⌝ }
 {
-    let columns = number(c);
-    let mut out = [[0.0; 4]; 4];
-    for i in 0..columns {
-        out[i] = leading(column(a, i), r);
-    }
-    out
+    leading_rows(column(a, 0), column(a, 1), column(a, 2), column(a, 3), c, r)
 }
 
 // ---- vectors

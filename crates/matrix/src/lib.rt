@@ -95,12 +95,16 @@ pub fn number(n: Size) -> usize
 pub fn size_of(n: usize) -> Size
     ensures { λ s. ⌜ s ≡ sizeOf n ⌝ }
 {
-    match n {
-        1 => Size::One,
-        2 => Size::Two,
-        3 => Size::Three,
-        _ => Size::Four,
+    if n < 2 {
+        return Size::One;
     }
+    if n < 3 {
+        return Size::Two;
+    }
+    if n < 4 {
+        return Size::Three;
+    }
+    Size::Four
 }
 
 // ---- the tests of what a call is given for sizes, each one bool

@@ -6,7 +6,6 @@ ghost use mathlib.Core.Bool.{cond};
 ghost use Prim.Native.Nat.{_+_, _*_, _≤_};
 ghost use lib.ListN.{length};
 ghost use Rattle.matrix.specs.Size.{count, part, sized};
-ghost use Rattle.filtering.specs.Filter.{gain};
 ghost use Rattle.layout.specs.Layout.{matrixAt, placed, pairLength, stride};
 ghost use Rattle.steps.specs.Step.{estimateIn, arraysOf};
 ghost use Rattle.steps.specs.Road.{matrixOf, estimateOf};
@@ -19,6 +18,7 @@ use matrix::both;
 use matrix::kernel;
 use matrix::number;
 use matrix::size_of;
+use steps::road;
 use steps::road::Pair;
 use steps::road::Two;
 
@@ -93,22 +93,6 @@ fn pair_at(b: &[f64], k: usize) -> Pair
     }
 }
 
-// P Fᵀ × W.
-fn gain_two(p: Two, f: Two, w: Two) -> Two
-    ensures { λ g. ⌜ matrixOf g ≡ gain 2 2 (matrixOf p) (matrixOf f) (matrixOf w) ⌝ }
-{
-    let s0 = 0.0 + p.a * f.a + p.b * f.b;
-    let s1 = 0.0 + p.a * f.c + p.b * f.d;
-    let t0 = 0.0 + p.c * f.a + p.d * f.b;
-    let t1 = 0.0 + p.c * f.c + p.d * f.d;
-    Two {
-        a: 0.0 + s0 * w.a + s1 * w.c,
-        b: 0.0 + s0 * w.b + s1 * w.d,
-        c: 0.0 + t0 * w.a + t1 * w.c,
-        d: 0.0 + t0 * w.b + t1 * w.d,
-    }
-}
-
 // x + G d, and P + (G D) Gᵀ, with d and D the next slot's smoothed pair less the predicted pair y.
 fn corrected_two(e: Pair, y: Pair, g: Two, next: Pair) -> Pair
     ensures { λ v. ⌜ estimateOf v ≡ smoothedPair 2 (slotOf e y) (matrixOf g) (estimateOf next) ⌝ }
@@ -149,7 +133,7 @@ fn smooth_two(e: Pair, y: Pair, f: Two, next: Pair) -> PairSmoothed
     match status {
         Status::Done => {
             let w = inverted.cells;
-            let g = gain_two(
+            let g = road::gain(
                 p,
                 f,
                 Two {

@@ -5,7 +5,7 @@ use mathlib.Core.Bool.{Bool, _&&_}
 use lib.Dec.{eqb}
 use lib.Ieee.{Float}
 use Rattle.answer.specs.declared.Status.{Status}
-use Rattle.answer.specs.Outcome.{Outcome, kept, handed}
+use Rattle.answer.specs.Outcome.{Outcome, standing, handed}
 use Rattle.algebra.specs.Matrix.{Vector, Matrix}
 use Rattle.algebra.specs.Array.{padRow, pad}
 use Rattle.matrix.specs.declared.Size.{Size}
@@ -43,7 +43,7 @@ abbrev pub arraysOf : Estimate → List Float × Rows
 arraysOf e = (padRow (e .state), pad (e .covariance))
 
 abbrev pub leftIn : {R : Type 0} → List Float → Rows → Outcome Estimate R → List Float × Rows
-leftIn x p o = kept arraysOf (x, p) (o .left)
+leftIn x p o = standing arraysOf (x, p) (o .left)
 
 abbrev pub updatedIn : List Float → Rows → Outcome Estimate Vector → VectorResult × (List Float × Rows)
 updatedIn x p o = handed asVector arraysOf (x, p) o

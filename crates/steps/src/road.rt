@@ -3,8 +3,9 @@
 ghost use mathlib.Core.Path.{_≡_};
 ghost use mathlib.Core.List.{[], _∷_};
 ghost use Rattle.answer.specs.Outcome.{done};
+ghost use Rattle.filtering.specs.Filter.{gain as gainOf};
 ghost use Rattle.filtering.specs.Linear.{predict as predictOf, update as updateOf};
-ghost use Rattle.steps.specs.Road.{motionOf, sensorOf, estimateOf, roadOf, trackerOf, correctedOf, updatedOf};
+ghost use Rattle.steps.specs.Road.{matrixOf, motionOf, sensorOf, estimateOf, roadOf, trackerOf, correctedOf, updatedOf};
 use matrix::ScalarResult;
 
 // The rows (a, b) and (c, d).
@@ -99,6 +100,22 @@ pub fn predict(a: Two, b0: f64, b1: f64, q: Two, u: f64, e: Pair) -> Pair
             c: (0.0 + t0 * a.a + t1 * a.b) + q.c,
             d: (0.0 + t0 * a.c + t1 * a.d) + q.d,
         },
+    }
+}
+
+// P Hᵀ × W, for an H of two rows: the smoother's gain, whose H is the transition.
+pub fn gain(p: Two, h: Two, w: Two) -> Two
+    ensures { λ g. ⌜ matrixOf g ≡ gainOf 2 2 (matrixOf p) (matrixOf h) (matrixOf w) ⌝ }
+{
+    let s0 = 0.0 + p.a * h.a + p.b * h.b;
+    let s1 = 0.0 + p.a * h.c + p.b * h.d;
+    let t0 = 0.0 + p.c * h.a + p.d * h.b;
+    let t1 = 0.0 + p.c * h.c + p.d * h.d;
+    Two {
+        a: 0.0 + s0 * w.a + s1 * w.c,
+        b: 0.0 + s0 * w.b + s1 * w.d,
+        c: 0.0 + t0 * w.a + t1 * w.c,
+        d: 0.0 + t0 * w.b + t1 * w.d,
     }
 }
 

@@ -45,11 +45,8 @@ pub steps-spec : {M : Type 1} → statement M
 steps-spec =
     tie.close
     (tie.spec
-    Inv-loop
-    μ-loop
-    loop-holds
-    (λ c κs. search needs)
-    (λ c κs. search needs)
+    Inv-loop μ-loop loop-holds
+    (λ c κs. search needs) (λ c κs. search needs)
     (λ c. omega (arith, c .before .before .before .before, c .before .before .before .before .before .before .fits))
     (λ c. omega (arith, c .before .before .before .before))
     loop-again

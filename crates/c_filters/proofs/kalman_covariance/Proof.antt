@@ -63,11 +63,8 @@ kalman-covariance-spec =
     (λ c. search needs)
     (λ c. omega (arith, test (c .before .before) .few, c .estimate-from .ensures))
     (λ c. omega (arith, test (c .before .before .before) .few, c .before .estimate-from .ensures))
-    (λ c. search needs)
-    (λ c. search needs)
+    (λ c. search needs) (λ c. search needs)
     (λ c. omega (arith, test (c .before .before .before) .long, c .before .estimate-from .ensures))
-    (λ c κs. search needs)
-    (λ c. search needs)
-    returns
-    returns-2
+    (λ c κs. search needs) (λ c. search needs)
+    returns returns-2
     returns-3)

@@ -30,6 +30,5 @@ kalman-predict-spec =
     (λ c κs. road (c .before .before .before .before .before) .long)
     (λ c. search needs)
     returns
-    (λ c κs. search needs)
-    (λ c. search needs)
+    (λ c κs. search needs) (λ c. search needs)
     (λ c. search needs))

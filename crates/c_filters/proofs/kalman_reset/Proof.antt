@@ -69,8 +69,6 @@ kalman-reset-spec =
     (λ c κs. test (c .before) .whole .sizes)
     (λ c κs. search needs)
     (λ c. let k = c .before .before .before .before .before in omega (arith, test (k .before .before) .whole .few, k .estimate-from .ensures))
-    (λ c κs. search needs)
-    (λ c. search needs)
-    returns
-    returns-2
+    (λ c κs. search needs) (λ c. search needs)
+    returns returns-2
     returns-3)

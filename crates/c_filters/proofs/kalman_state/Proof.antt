@@ -41,11 +41,8 @@ kalman-state-spec =
     (λ c κs. search needs)
     (λ c κs. test c .whole .sizes)
     (λ c. omega (arith, test (c .before) .whole .few, c .estimate-from .ensures))
-    (λ c. search needs)
-    (λ c. search needs)
-    (λ c. search needs)
+    (λ c. search needs) (λ c. search needs) (λ c. search needs)
     (λ c. omega (arith, test (c .before .before) .whole .long, c .before .estimate-from .ensures))
-    (λ c κs. search needs)
-    (λ c. search needs)
+    (λ c κs. search needs) (λ c. search needs)
     returns
     returns-2)

@@ -49,21 +49,15 @@ pub kalman-update-spec : {M : Type 1} → statement M
 kalman-update-spec =
     tie.close
     (tie.spec
-    (λ c κs. search needs)
-    (λ c κs. search needs)
+    (λ c κs. search needs) (λ c κs. search needs)
     (λ c κs. road (c .before) .long)
     (λ c. omega (arith, road (c .before .before .before) .one))
-    (λ c κs. search needs)
-    (λ c. search needs)
+    (λ c κs. search needs) (λ c. search needs)
     (λ c κs. road (c .before .before .before .before .before .before .before .before .before) .long)
     (λ c. omega (arith, room (c .before .before .before .before .before .before .before .before .before .before .before .before)))
-    (λ c. search needs)
-    (λ c. search needs)
+    (λ c. search needs) (λ c. search needs)
     returns
-    (λ c. search needs)
-    (λ c. search needs)
+    (λ c. search needs) (λ c. search needs)
     returns-2
-    (λ c κs. search needs)
-    (λ c. search needs)
-    (λ c. search needs)
+    (λ c κs. search needs) (λ c. search needs) (λ c. search needs)
     (λ c. search needs))

@@ -29,11 +29,7 @@ pub rts-smoother-smooth-spec : {M : Type 1} → statement M
 rts-smoother-smooth-spec =
     tie.close
     (tie.spec
-    (λ c κs. search needs)
-    (λ c κs. search needs)
-    (λ c κs. search needs)
-    (λ c κs. search needs)
-    (λ c κs. search needs)
+    (λ c κs. search needs) (λ c κs. search needs) (λ c κs. search needs) (λ c κs. search needs) (λ c κs. search needs)
     (λ c. search needs)
     returns
     returns-2)

@@ -2,7 +2,7 @@
 use Prim.Native.Nat.{ℕ}
 use mathlib.Core.Path.{sym, ap, _∙_}
 use Rattle.algebra.specs.Array.{used}
-use Rattle.algebra.specs.Cholesky.{choleskyOf}
+use Rattle.algebra.specs.Cholesky.{cholesky}
 use Rattle.matrix.specs.Result.{asMatrix}
 use Rattle.matrix.proofs.Sizes.{is-count}
 use Rattle.matrix.proofs.Results.{if-answered, if-refused}
@@ -15,7 +15,7 @@ returns c =
     let t = s .before .before in
     let a = t .before .before .args in
     let sized = sym (t .before .is-size .ensures) ∙ t .if1 .taken in
-    if-answered asMatrix _ sized (c .factor-of .ensures ∙ ap (λ (k : ℕ). asMatrix (choleskyOf k (used k k (a .t1)))) (is-count sized (s .size-of .ensures)))
+    if-answered asMatrix _ sized (c .factor-of .ensures ∙ ap (λ (k : ℕ). asMatrix (cholesky k (used k k (a .t1)))) (is-count sized (s .size-of .ensures)))
 
 returns-2 : tie.Need-returns-2
 returns-2 c = if-refused asMatrix _ (sym (c .before .before .is-size .ensures) ∙ c .before .if1 .left) (c .matrix-refused .ensures)

@@ -23,11 +23,12 @@ loop-holds c = factoring-none _ _ (omega (arith, c .number .ensures, bounds (c .
 
 loop-again : tie.Need-loop-again Inv-loop μ-loop
 loop-again c =
-    let d = c .before .before .before in
+    let x = c .before .before in
+    let d = x .before .before in
     let v = d .before .before .before .before .before in
     let e = v .before .before .before .loop in
     factoring-more (e .inv) (omega arith) (v .left-cells .ensures) (dot-sized (e .i) (d .before .dot .ensures) (omega arith))
-    (answered-value _ (d .diagonal-root .ensures) (c .before .x .given .1))
+    (answered-value _ (d .diagonal-root .ensures) (x .x .given .1)) (c .row-with .ensures)
 
 returns : tie.Need-returns Inv-loop μ-loop
 returns c =
@@ -52,14 +53,13 @@ pub factor-of-spec : {M : Type 1} → statement M
 factor-of-spec =
     tie.close
     (tie.spec
-    Inv-loop
-    μ-loop
+    Inv-loop μ-loop
     (λ c κs. tt)
     loop-holds
     (λ c κs. omega arith)
     (λ c. omega arith) (λ c. omega arith) (λ c. omega arith) (λ c. omega arith)
     (λ c κs. tt) (λ c κs. tt) (λ c. search needs)
-    (λ c. omega arith) (λ c. omega arith) (λ c. omega arith) (λ c. omega arith)
+    (λ c κs. tt) (λ c. omega arith) (λ c. omega arith)
     (λ c. search needs) (λ c κs. tt)
     returns
     (λ c. omega arith) (λ c. omega arith)

@@ -28,9 +28,7 @@ pub left-cells-spec : {M : Type 1} → statement M
 left-cells-spec =
     tie.close
     (tie.spec
-    Inv-loop
-    μ-loop
-    loop-holds
+    Inv-loop μ-loop loop-holds
     (λ c. omega arith) (λ c. omega arith) (λ c κs. tt) (λ c. omega arith)
     (λ c. omega arith) (λ c. omega arith) (λ c. omega arith) (λ c. omega arith)
     (λ c. omega arith) (λ c. omega arith) (λ c. omega arith) (λ c. omega arith)

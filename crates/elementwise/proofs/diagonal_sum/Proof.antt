@@ -32,8 +32,7 @@ pub diagonal-sum-spec : {M : Type 1} → statement M
 diagonal-sum-spec =
     tie.close
     (tie.spec
-    Inv-loop
-    μ-loop
+    Inv-loop μ-loop
     (λ c κs. tt)
     loop-holds
     (λ c. omega arith) (λ c. omega arith) (λ c. omega arith) (λ c. omega arith) (λ c. omega arith) (λ c. omega arith)

@@ -33,8 +33,7 @@ pub equal-row-spec : {M : Type 1} → statement M
 equal-row-spec =
     tie.close
     (tie.spec
-    Inv-loop
-    μ-loop
+    Inv-loop μ-loop
     (λ c κs. tt)
     loop-holds
     (λ c. omega arith) (λ c. omega arith) (λ c. omega arith) (λ c. omega arith)

@@ -38,8 +38,7 @@ pub equal-rows-spec : {M : Type 1} → statement M
 equal-rows-spec =
     tie.close
     (tie.spec
-    Inv-loop
-    μ-loop
+    Inv-loop μ-loop
     (λ c κs. tt)
     loop-holds
     (λ c. omega arith) (λ c. omega arith) (λ c. omega arith) (λ c. omega arith)

@@ -26,8 +26,7 @@ pub sum-of-squares-spec : {M : Type 1} → statement M
 sum-of-squares-spec =
     tie.close
     (tie.spec
-    Inv-loop
-    μ-loop
+    Inv-loop μ-loop
     (λ c κs. tt)
     loop-holds
     (λ c. omega arith) (λ c. omega arith)

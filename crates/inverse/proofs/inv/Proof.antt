@@ -51,7 +51,5 @@ inv-spec =
     (λ c κs. tt) (λ c κs. tt)
     (λ c κs. tt) (λ c κs. tt)
     (λ c κs. tt)
-    returns
-    returns-2
-    returns-3
+    returns returns-2 returns-3
     returns-4)

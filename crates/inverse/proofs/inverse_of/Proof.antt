@@ -28,6 +28,5 @@ inverse-of-spec =
     (λ c. search needs) (λ c. search needs) (λ c. search needs) (λ c. search needs)
     (λ c. search needs) (λ c. search needs) (λ c. search needs) (λ c. search needs)
     (λ c κs. tt) (λ c κs. tt) (λ c κs. tt)
-    returns
-    returns-2
+    returns returns-2
     (λ c. c .eliminate .ensures))

@@ -1,16 +1,26 @@
 -- `inverse_two` meets its contract: by the test of the two magnitudes, the rows stay or change places.
 use mathlib.Core.Path.{sym, ap, _∙_}
-use Rattle.answer.proofs.Choice.{cond-true, cond-false}
+use Rattle.algebra.specs.Matrix.{twoByTwo}
 use Rattle.matrix.specs.Result.{asMatrix}
-use Rattle.inverse.proofs.Two.{two-is}
+use Rattle.inverse.specs.Two.{fromDiagonal}
+use Rattle.inverse.proofs.Two.{exchange-two}
 use Rattle.inverse.proofs.inverse_two.Statement.{statement}
 use Rattle.inverse.proofs.inverse_two.Tie as tie
 
 returns : tie.Need-returns
-returns c = c .diagonal-two .ensures ∙ ap asMatrix (sym (two-is _ _ _ _ ∙ cond-true _ _ (sym (c .before .before .above .ensures) ∙ c .before .if1 .taken)))
-
-returns-2 : tie.Need-returns-2
-returns-2 c = c .diagonal-two2 .ensures ∙ ap asMatrix (sym (two-is _ _ _ _ ∙ cond-false _ _ (sym (c .before .before .above .ensures) ∙ c .before .if1 .left)))
+returns c =
+    let last = c .before in
+    let below = last .before in
+    let right = below .before in
+    let first = right .before in
+    let f = first .before in
+    let e = f .before in
+    let t = e .before in
+    let x = t .before .args in
+    c .diagonal-two .ensures
+    ∙ (λ i. asMatrix (fromDiagonal (twoByTwo (first .pick3 .ensures i) (right .pick4 .ensures i) (below .pick5 .ensures i) (last .pick6 .ensures i))
+    (twoByTwo (e .pick .ensures i) (f .pick2 .ensures i) (f .pick2 .ensures i) (e .pick .ensures i))))
+    ∙ ap asMatrix (exchange-two (x .a) (x .b) (x .c) (x .d) (t .above .ensures))
 
 pub inverse-two-spec : {M : Type 1} → statement M
-inverse-two-spec = tie.close (tie.spec (λ c κs. tt) (λ c κs. tt) (λ c κs. tt) returns returns-2)
+inverse-two-spec = tie.close (tie.spec (λ c κs. tt) (λ c κs. tt) (λ c κs. tt) (λ c κs. tt) (λ c κs. tt) (λ c κs. tt) (λ c κs. tt) (λ c κs. tt) returns)

@@ -1,39 +1,53 @@
 -- `pivot_row` meets its contract: the loop keeps the pivot among the rows passed, with its magnitude.
 use mathlib.Core.Logic.{⊎-elim}
-use Prim.Native.Nat.{_-_}
+use mathlib.Core.Path.{ap, _∙_}
+use Prim.Native.Nat.{ℕ, suc, _-_, _≤_}
 use native.Mathlib.Omega.{arith}
 use Rattle.algebra.proofs.Pivots.{Leading, leading-first, leading-passed, leading-kept, leading-all}
+use Rattle.algebra.specs.Inverse.{pivotRow}
+use Rattle.matrix.proofs.Sizes.{bounds}
 use Rattle.inverse.proofs.pivot_row.Statement.{statement}
 use Rattle.inverse.proofs.pivot_row.Tie as tie
 
 abbrev Inv-loop : tie.InvT-loop
-Inv-loop a n col p₀ largest₀ i₀ p largest i = Leading a col n i p largest
+Inv-loop a col rows p₀ largest₀ i₀ p largest i = (rows ≤ 4) × Leading a col rows i p largest
 
 abbrev μ-loop : tie.MeasureT-loop
-μ-loop a n col p₀ largest₀ i₀ p largest i = n - i
+μ-loop a col rows p₀ largest₀ i₀ p largest i = rows - i
 
 loop-holds : tie.Need-loop-holds Inv-loop μ-loop
-loop-holds c = leading-first _ _ _ (omega arith) (c .abs .ensures)
+loop-holds c =
+    let k = c .before .before in
+    let most = bounds (k .before .args .n) .most in
+    (omega arith, leading-first _ _ _ (omega arith) (c .abs .ensures))
 
 loop-again : tie.Need-loop-again Inv-loop μ-loop
 loop-again c =
-    let e = c .before .before .before .before .loop .inv in
-    ⊎-elim
-    (λ w. rw (w .1, w .2) (leading-passed e (omega arith) (c .before .abs2 .ensures) (w .0 .taken)))
-    (λ w. rw (w .1, w .2) (leading-kept e (omega arith) (c .before .abs2 .ensures) (w .0 .left)))
-    (c .if1 .came)
+    let e = c .before .before .before .before .loop .inv in (
+      e .0,
+      ⊎-elim
+          (λ w. rw (w .1, w .2) (leading-passed (e .1) (omega arith) (c .before .abs2 .ensures) (w .0 .taken)))
+          (λ w. rw (w .1, w .2) (leading-kept (e .1) (omega arith) (c .before .abs2 .ensures) (w .0 .left)))
+          (c .if1 .came),
+    )
 
 returns : tie.Need-returns Inv-loop μ-loop
-returns c = leading-all (c .before .loop .inv) (omega arith)
+returns c =
+    let l = c .before in
+    let k = l .before .before .before in
+    let x = k .before .args in
+    let r = leading-all (l .loop .inv .1) (omega arith) in
+    (r .0 ∙ ap (λ (n : ℕ). pivotRow (x .a .now) (x .col) (n - suc (x .col))) (k .number .ensures), omega (arith, r, k .number .ensures))
 
 pub pivot-row-spec : {M : Type 1} → statement M
 pivot-row-spec =
     tie.close
     (tie.spec
-    Inv-loop
-    μ-loop
-    (λ c. omega arith) (λ c. omega arith) (λ c. omega arith) (λ c. omega arith)
-    (λ c κs. tt) (λ c. omega arith)
+    Inv-loop μ-loop
+    (λ c κs. tt)
+    (λ c. omega (arith, bounds (c .before .args .n))) (λ c. omega (arith, bounds (c .before .args .n)))
+    (λ c. omega (arith, bounds (c .before .args .n))) (λ c. omega (arith, bounds (c .before .args .n)))
+    (λ c κs. tt) (λ c. omega (arith, bounds (c .before .before .before .args .n)))
     loop-holds
     (λ c. omega arith) (λ c. omega arith) (λ c. omega arith) (λ c. omega arith)
     (λ c κs. tt) (λ c. omega arith) (λ c. omega arith)

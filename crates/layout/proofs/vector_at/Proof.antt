@@ -1,27 +1,27 @@
 -- `vector_at` meets its contract.
-use mathlib.Core.Path.{sym, _∙_}
-use Rattle.layout.proofs.Places.{room-of}
-use Rattle.layout.proofs.Calls.{bounds-as, vector-found, vector-none}
+use mathlib.Core.Path.{refl, ap, _∙_}
+use Rattle.algebra.specs.Array.{padRow}
+use Rattle.layout.proofs.Calls.{there-is, found, missed}
 use Rattle.layout.proofs.vector_at.Statement.{statement}
 use Rattle.layout.proofs.vector_at.Tie as tie
 
 read-vector-requires : tie.Need-read-vector-requires
 read-vector-requires c κs =
-    let n = c .before .before in
-    let B = bounds-as (n .before .before .args .n) (n .number .ensures) in
-    (B .least, B .most, room-of _ _ _ (sym (c .before .is-room .ensures) ∙ c .if1 .taken))
+    let r = c .before in
+    let a = r .before .before .before .args in
+    there-is (a .k) (a .b .now) (r .before .number .ensures) (r .is-room .ensures) (c .if1 .taken)
 
 returns : tie.Need-returns
 returns c =
     let r = c .before .before in
     let a = r .before .before .before .args in
-    vector-found (a .k) (a .b .now) (r .before .number .ensures) (r .is-room .ensures) (c .before .if1 .taken) (c .read-vector .ensures)
+    c .read-vector .ensures ∙ ap padRow (found (a .k) (a .b .now) (r .before .number .ensures) (r .is-room .ensures) _ _ (c .before .if1 .taken) refl)
 
 returns-2 : tie.Need-returns-2
 returns-2 c =
     let r = c .before in
     let a = r .before .before .before .args in
-    vector-none (a .k) (a .b .now) (r .before .number .ensures) (r .is-room .ensures) (c .if1 .left)
+    ap padRow (missed (a .k) (a .b .now) (r .before .number .ensures) (r .is-room .ensures) _ _ (c .if1 .left))
 
 pub vector-at-spec : {M : Type 1} → statement M
 vector-at-spec = tie.close (tie.spec (λ c κs. tt) (λ c κs. tt) read-vector-requires returns returns-2)

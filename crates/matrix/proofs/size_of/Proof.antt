@@ -1,11 +1,16 @@
--- `size_of` meets its contract: what is none of 1, 2 and 3 is taken for 4.
-use borrow.Author.Needs.{needs}
-use Rattle.matrix.proofs.Sizes.{four-of}
+-- `size_of` meets its contract: below 2, below 3, below 4, or none of them.
+use mathlib.Core.Path.{refl, ap, _∙_}
+use Rattle.matrix.specs.Size.{sizeOf}
+use Rattle.matrix.specs.declared.Size.the-variants.{Two, Three}
+use Rattle.matrix.proofs.Sizes.{sizeOf-count, exactly, one-of, four-of}
 use Rattle.matrix.proofs.size_of.Statement.{statement}
 use Rattle.matrix.proofs.size_of.Tie as tie
 
-returns-4 : tie.Need-returns-4
-returns-4 c = let r = c .match .rest in four-of _ (r .0 .0 .1) (r .0 .1) (r .1)
-
 pub size-of-spec : {M : Type 1} → statement M
-size-of-spec = tie.close (tie.spec (λ c. search needs) (λ c. search needs) (λ c. search needs) returns-4)
+size-of-spec =
+    tie.close
+    (tie.spec
+    (λ c. one-of _ (c .if1 .taken))
+    (λ c. sizeOf-count Two ∙ ap sizeOf (exactly 2 refl (c .before .if1 .left) (c .if2 .taken)))
+    (λ c. sizeOf-count Three ∙ ap sizeOf (exactly 3 refl (c .before .if2 .left) (c .if3 .taken)))
+    (λ c. four-of _ (c .if3 .left)))

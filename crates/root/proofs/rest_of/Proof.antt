@@ -50,17 +50,8 @@ pub rest-of-spec : {M : Type 1} → statement M
 rest-of-spec =
     tie.close
     (tie.spec
-    mul-hh
-    mul-hl
-    mul-ll
-    (λ c. search needs)
-    (λ c. search needs)
-    (λ c. search needs)
+    mul-hh mul-hl mul-ll
+    (λ c. search needs) (λ c. search needs) (λ c. search needs)
     mul-if3
-    (λ c. search needs)
-    (λ c. search needs)
-    (λ c. search needs)
-    (λ c. search needs)
-    (λ c. search needs)
-    (λ c. search needs)
+    (λ c. search needs) (λ c. search needs) (λ c. search needs) (λ c. search needs) (λ c. search needs) (λ c. search needs)
     returns-6)

@@ -27,9 +27,7 @@ rounded-spec =
     (tie.spec
     (λ c. search needs)
     (λ c. omega (arith, code-lt (c .args .m) (c .args .e) (c .pre .0) (c .pre .1)))
-    (λ c. search needs)
-    (λ c. search needs)
-    (λ c. search needs)
+    (λ c. search needs) (λ c. search needs) (λ c. search needs)
     whole-root-requires
     (λ c. let b = bounds c in omega arith)
     pack-requires

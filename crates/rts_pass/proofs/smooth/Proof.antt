@@ -71,15 +71,11 @@ smooth-spec =
     (tie.spec
     (λ c κs. tt)
     returns
-    (λ c κs. tt)
-    (λ c. search needs)
+    (λ c κs. tt) (λ c. search needs)
     smooth-slots-requires
     (λ c. search needs)
     (λ c. shorter (c .before .before .before .before))
     (λ c. sym (length-take-le _ _ (shorter (c .before .before .before .before .before))))
-    (λ c κs. tt)
-    (λ c. search needs)
-    (λ c. search needs)
-    returns-2
-    returns-3
+    (λ c κs. tt) (λ c. search needs) (λ c. search needs)
+    returns-2 returns-3
     returns-4)

@@ -118,8 +118,7 @@ pub smooth-slots-spec : {M : Type 1} → statement M
 smooth-slots-spec =
     tie.close
     (tie.spec
-    Inv-loop
-    μ-loop
+    Inv-loop μ-loop
     (λ c κs. tt)
     smooth-slots-two-requires
     (λ c. c .before .before .smooth-slots-two .kept .1 .1 .1 .0)

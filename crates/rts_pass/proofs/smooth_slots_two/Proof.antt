@@ -57,19 +57,9 @@ pub smooth-slots-two-spec : {M : Type 1} → statement M
 smooth-slots-two-spec =
     tie.close
     (tie.spec
-    Inv-loop
-    μ-loop
-    (λ c. search needs)
-    (λ c. search needs)
-    (λ c. search needs)
-    (λ c. search needs)
-    (λ c. search needs)
-    (λ c. search needs)
-    (λ c. search needs)
-    (λ c. search needs)
-    (λ c. omega arith)
-    (λ c. omega arith)
-    (λ c κs. omega arith)
+    Inv-loop μ-loop
+    (λ c. search needs) (λ c. search needs) (λ c. search needs) (λ c. search needs) (λ c. search needs) (λ c. search needs)
+    (λ c. search needs) (λ c. search needs) (λ c. omega arith) (λ c. omega arith) (λ c κs. omega arith)
     loop-holds
     (λ c. omega (arith, c .before .before .loop .inv .below))
     put-two-requires
@@ -79,8 +69,7 @@ smooth-slots-two-spec =
     (λ c. omega (arith, c .before .before .before .before .before .before .loop .inv .below))
     (λ c. omega (arith, c .before .before .before .before .before .before .loop .inv .below))
     (λ c κs. omega (arith, c .before .before .before .before .before .before .loop .inv .below))
-    (λ c κs. tt)
-    (λ c. search needs)
+    (λ c κs. tt) (λ c. search needs)
     (λ c. omega (arith, c .before .before .before .before .before .before .before .before .before .before .loop-test))
     loop-again
     (λ c. search needs)

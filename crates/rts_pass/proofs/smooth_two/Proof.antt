@@ -10,7 +10,7 @@ returns c =
     let t = g .before .before in
     let i = t .before .before in
     let a = i .before .before .before .args in
-    two-done (a .e) (a .y) (a .next) (a .f) (i .inverse-two .result) (i .inverse-two .ensures) (t .enum-told .given .1) (g .gain-two .ensures) (c .corrected-two .ensures)
+    two-done (a .e) (a .y) (a .next) (a .f) (i .inverse-two .result) (i .inverse-two .ensures) (t .enum-told .given .1) (g .gain .ensures) (c .corrected-two .ensures)
 
 returns-2 : tie.Need-returns-2
 returns-2 c =
@@ -23,14 +23,7 @@ pub smooth-two-spec : {M : Type 1} → statement M
 smooth-two-spec =
     tie.close
     (tie.spec
-    (λ c κs. tt)
-    (λ c. search needs)
-    (λ c. search needs)
-    (λ c. search needs)
-    (λ c. search needs)
-    (λ c. search needs)
-    (λ c κs. tt)
-    (λ c κs. tt)
-    (λ c. search needs)
+    (λ c κs. tt) (λ c. search needs) (λ c. search needs) (λ c. search needs) (λ c. search needs) (λ c. search needs)
+    (λ c κs. tt) (λ c κs. tt) (λ c. search needs)
     returns
     returns-2)

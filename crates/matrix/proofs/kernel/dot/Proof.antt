@@ -33,10 +33,7 @@ pub dot-spec : {M : Type 1} → statement M
 dot-spec =
     tie.close
     (tie.spec
-    Inv-loop
-    μ-loop
-    loop-holds
+    Inv-loop μ-loop loop-holds
     (λ c. omega arith) (λ c. omega arith) (λ c. omega arith) (λ c. omega arith) (λ c. omega arith) (λ c. omega arith)
-    loop-again
-    returns
+    loop-again returns
     returns-2)

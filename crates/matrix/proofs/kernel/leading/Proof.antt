@@ -1,30 +1,38 @@
--- `kernel::leading` meets its contract: each test that passes writes the row out for one size, and the last row is for 4.
+-- `kernel::leading` meets its contract: each way out writes the row for one size.
 use native.Mathlib.Omega.{arith}
-use mathlib.Core.Path.{sym, _∙_}
 use Rattle.algebra.specs.Array.{cut}
-use Rattle.matrix.proofs.Sizes.{is-four}
+use Rattle.matrix.proofs.Sizes.{exactly, is-one, is-four}
 use Rattle.matrix.proofs.Kernels.{leading-at}
 use Rattle.matrix.proofs.kernel.leading.Statement.{statement}
 use Rattle.matrix.proofs.kernel.leading.Tie as tie
 
 returns : tie.Need-returns
 unfolding cut
-returns c = let k = c .before in leading-at 1 _ (k .before .args .t1) (sym (c .if1 .taken) ∙ k .number .ensures)
+returns c =
+    let k = c .before in
+    let a = k .before .args in
+    leading-at 1 _ (a .t1) (is-one (a .n) (k .number .ensures) (c .if1 .taken))
 
 returns-2 : tie.Need-returns-2
 unfolding cut
-returns-2 c = let k = c .before .before in leading-at 2 _ (k .before .args .t1) (sym (c .if2 .taken) ∙ k .number .ensures)
+returns-2 c =
+    let k = c .before .before in
+    let a = k .before .args in
+    leading-at 2 _ (a .t1) (exactly 2 (k .number .ensures) (c .before .if1 .left) (c .if2 .taken))
 
 returns-3 : tie.Need-returns-3
 unfolding cut
-returns-3 c = let k = c .before .before .before in leading-at 3 _ (k .before .args .t1) (sym (c .if3 .taken) ∙ k .number .ensures)
+returns-3 c =
+    let k = c .before .before .before in
+    let a = k .before .args in
+    leading-at 3 _ (a .t1) (exactly 3 (k .number .ensures) (c .before .if2 .left) (c .if3 .taken))
 
 returns-4 : tie.Need-returns-4
 unfolding cut
 returns-4 c =
     let k = c .before .before .before in
     let a = k .before .args in
-    leading-at 4 _ (a .t1) (is-four (a .n) (k .number .ensures) (c .before .before .if1 .left) (c .before .if2 .left) (c .if3 .left))
+    leading-at 4 _ (a .t1) (is-four (a .n) (k .number .ensures) (c .if3 .left))
 
 pub leading-spec : {M : Type 1} → statement M
 leading-spec =

@@ -1,53 +1,25 @@
--- `kernel::transposed` meets its contract: a loop over the columns, each of which becomes a row.
-use Prim.Native.Nat.{ℕ, _-_, _≤_}
-use mathlib.Core.Path.{ap, _∙_}
-use native.Mathlib.Omega.{arith}
-use Rattle.answer.specs.Table.{table}
-use Rattle.algebra.specs.Matrix.{cell, transpose}
-use Rattle.algebra.specs.Array.{used, pad}
-use Rattle.algebra.proofs.Arrays.{Rows, rows-none, rows-more, rows-all, transpose-used}
-use Rattle.matrix.specs.Size.{count}
+-- `kernel::transposed` meets its contract: the columns are the rows.
+use mathlib.Core.Path.{sym, ap, _∙_}
+use mathlib.Core.List.{[], _∷_}
+use Rattle.algebra.specs.Matrix.{cell}
+use Rattle.algebra.specs.Array.{pad}
+use Rattle.algebra.proofs.Arrays.{used-mat, transpose-used}
+use Rattle.matrix.specs.Size.{part}
 use Rattle.matrix.proofs.Sizes.{bounds}
-use Rattle.matrix.proofs.Kernels.{leading-row}
+use borrow.Author.Needs.{needs}
 use Rattle.matrix.proofs.kernel.transposed.Statement.{statement}
 use Rattle.matrix.proofs.kernel.transposed.Tie as tie
 
-abbrev Inv-loop : tie.InvT-loop
-Inv-loop a r columns out₀ i₀ out i = (columns ≤ 4) × Rows (λ i. table (count r) (λ j. cell a j i)) columns i out
-
-abbrev μ-loop : tie.MeasureT-loop
-μ-loop a r columns out₀ i₀ out i = columns - i
-
-loop-holds : tie.Need-loop-holds Inv-loop μ-loop
-loop-holds c = (omega (arith, c .number .ensures, bounds (c .before .args .c)), rows-none _ _)
-
-loop-again : tie.Need-loop-again Inv-loop μ-loop
-loop-again c =
-    let l = c .before .before .before in
-    let v = l .loop .inv in
-    let x = l .before .before .args in
-    (v .0, rows-more (v .1) (v .0) (omega arith) (c .leading .ensures ∙ leading-row _ _ _ (bounds (x .r) .most) (c .before .column .ensures)))
-
-returns : tie.Need-returns Inv-loop μ-loop
+returns : tie.Need-returns
 returns c =
-    let l = c .before in
-    let k = l .before in
-    let x = k .before .args in
-    rows-all (l .loop .inv .1) (omega arith) (transpose-used _ _ _) ∙ ap (λ (n : ℕ). pad (transpose (count (x .r)) n (used (count (x .r)) n (x .a .now)))) (k .number .ensures)
+    let c3 = c .before in
+    let c2 = c3 .before in
+    let c1 = c2 .before in
+    let c0 = c1 .before in
+    let x = c0 .before .args in
+    c .leading-rows .ensures
+    ∙ (λ i. pad (part (x .c) (x .r) (c0 .column .ensures i ∷ c1 .column2 .ensures i ∷ c2 .column3 .ensures i ∷ c3 .column4 .ensures i ∷ [])))
+    ∙ ap pad (used-mat _ _ (λ i j. cell (x .a .now) j i) (bounds (x .c) .most) (bounds (x .r) .most) ∙ sym (transpose-used _ _ _))
 
 pub transposed-spec : {M : Type 1} → statement M
-transposed-spec =
-    tie.close
-    (tie.spec
-    Inv-loop
-    μ-loop
-    (λ c κs. tt)
-    loop-holds
-    (λ c κs. omega arith)
-    (λ c κs. tt)
-    (λ c. omega arith)
-    (λ c. omega arith)
-    (λ c. omega arith)
-    (λ c. omega arith)
-    loop-again
-    returns)
+transposed-spec = tie.close (tie.spec (λ c κs. search needs) (λ c κs. search needs) (λ c κs. search needs) (λ c κs. search needs) (λ c κs. search needs) returns)

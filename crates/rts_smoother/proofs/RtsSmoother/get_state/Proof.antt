@@ -32,13 +32,11 @@ pub get-state-spec : {M : Type 1} → statement M
 get-state-spec =
     tie.close
     (tie.spec
-    (λ c κs. tt)
-    (λ c κs. tt)
+    (λ c κs. tt) (λ c κs. tt)
     (λ c. omega (arith, inside c))
     (λ c. omega (arith, inside c))
     (λ c. omega (arith, inside c))
-    (λ c. search needs)
-    (λ c. search needs)
+    (λ c. search needs) (λ c. search needs)
     (λ c. inside c .ends)
     (λ c. search needs)
     returns
