@@ -5,8 +5,8 @@ ghost use mathlib.Core.Bool.{true, _&&_};
 ghost use lib.ListN.{length};
 ghost use Rattle.answer.specs.Answer.{mapped};
 ghost use Rattle.answer.specs.Told.{given};
-ghost use Rattle.algebra.specs.Array.{cut, used};
-ghost use Rattle.c_matrix.specs.Slices.{isMatrix, isVector, rows};
+ghost use Rattle.algebra.specs.Array.{used};
+ghost use Rattle.c_matrix.specs.Slices.{isMatrix, rows};
 ghost use Rattle.c_matrix.specs.Told.{single, matrixTold, scalarTold, testTold};
 use answer::Status;
 use matrix::MatrixResult;
@@ -16,12 +16,11 @@ use matrix::TestResult;
 pub mod cells;
 pub mod matrices;
 pub mod numbers;
-pub mod vectors;
 
 // ---- sizes and lengths, tested by one bool. A vector of n numbers is a column, n rows of one.
 
 // A slice of len numbers is just r rows of c numbers.
-fn is_matrix(r: usize, c: usize, len: usize) -> bool
+pub fn is_matrix(r: usize, c: usize, len: usize) -> bool
     ensures { λ t. ⌜ t ≡ isMatrix r c len ⌝ }
 {
     if matrix::is_shape(r, c) {
@@ -32,14 +31,14 @@ fn is_matrix(r: usize, c: usize, len: usize) -> bool
 }
 
 // The same of two slices.
-fn are_two_matrices(r: usize, c: usize, len: usize, p: usize, q: usize, len2: usize) -> bool
+pub fn are_two_matrices(r: usize, c: usize, len: usize, p: usize, q: usize, len2: usize) -> bool
     ensures { λ t. ⌜ t ≡ isMatrix r c len && isMatrix p q len2 ⌝ }
 {
     matrix::both(is_matrix(r, c, len), is_matrix(p, q, len2))
 }
 
 // The same of three.
-fn are_three_matrices(
+pub fn are_three_matrices(
     r: usize,
     c: usize,
     len: usize,
@@ -66,14 +65,8 @@ fn rows_in(a: &[f64], r: usize, c: usize) -> [[f64; 4]; 4]
     layout::matrix_at(a, 0, matrix::size_of(r), matrix::size_of(c))
 }
 
-fn numbers_in(v: &[f64], n: usize) -> [f64; 4]
-    ensures { λ x. ⌜ (isVector n (length (now (v .entry))) ≡ true → cut n x ≡ now (v .entry)) ⌝ }
-{
-    layout::vector_at(v, 0, matrix::size_of(n))
-}
-
 // The number that is told; a refusal writes nothing.
-fn give_matrix(out: &mut [f64], m: MatrixResult, r: usize, c: usize) -> u8
+pub fn give_matrix(out: &mut [f64], m: MatrixResult, r: usize, c: usize) -> u8
     ensures { λ t. ⌜ (isMatrix r c (length (now (out .entry))) ≡ true → (t, now (out .exit)) ≡ given (now (out .entry)) (matrixTold r c m)) ⌝ }
 {
     let status = m.status;
@@ -101,7 +94,7 @@ fn give_number(out: &mut [f64], x: ScalarResult) -> u8
     }
 }
 
-fn give_scalar(out: &mut f64, x: ScalarResult) -> u8
+pub fn give_scalar(out: &mut f64, x: ScalarResult) -> u8
     ensures { λ t. ⌜ (t, now (out .exit)) ≡ given (now (out .entry)) (scalarTold x) ⌝ }
 {
     match x {

@@ -1,67 +1,9 @@
-// src/core/scalar.rs: the functions of the number type, and its constants in a slice.
+// src/core/scalar.rs: the constants of the number type in a slice. Its functions on numbers need no call of their own.
 ghost use mathlib.Core.Path.{_≡_};
 ghost use lib.ListN.{length};
-ghost use Rattle.root.specs.Root.{root as rootOf};
-ghost use Rattle.scalar.specs.Number.{abs, clamp, saturated, ofWhole};
 ghost use Rattle.answer.specs.Told.{given};
 ghost use Rattle.c_matrix.specs.Calls.{constantsIn};
-use matrix::Size;
 use scalar::ControlScalar;
-use scalar::PidScalar;
-
-pub fn scalar_sqrt(x: f64) -> f64
-    ensures { λ r. ⌜ r ≡ rootOf x ⌝ }
-{
-    ControlScalar::sqrt(x)
-}
-
-pub fn scalar_abs(x: f64) -> f64
-    ensures { λ r. ⌜ r ≡ abs x ⌝ }
-{
-    ControlScalar::abs(x)
-}
-
-pub fn scalar_clamp_val(x: f64, min: f64, max: f64) -> f64
-    ensures { λ r. ⌜ r ≡ clamp x min max ⌝ }
-{
-    ControlScalar::clamp_val(x, min, max)
-}
-
-pub fn scalar_saturate(x: f64, limit: f64) -> f64
-    ensures { λ r. ⌜ r ≡ saturated x limit ⌝ }
-{
-    ControlScalar::saturate(x, limit)
-}
-
-pub fn scalar_from_f64(v: f64) -> f64
-    ensures { λ r. ⌜ r ≡ v ⌝ }
-{
-    ControlScalar::from_f64(v)
-}
-
-pub fn scalar_to_f64(x: f64) -> f64
-    ensures { λ r. ⌜ r ≡ x ⌝ }
-{
-    ControlScalar::to_f64(x)
-}
-
-pub fn scalar_from_int(v: i32) -> f64
-    ensures { λ r. ⌜ r ≡ ofWhole v ⌝ }
-{
-    PidScalar::from_int(v)
-}
-
-pub fn scalar_pid_abs(x: f64) -> f64
-    ensures { λ r. ⌜ r ≡ abs x ⌝ }
-{
-    PidScalar::abs(x)
-}
-
-pub fn scalar_clamp_pid(x: f64, min: f64, max: f64) -> f64
-    ensures { λ r. ⌜ r ≡ clamp x min max ⌝ }
-{
-    PidScalar::clamp_pid(x, min, max)
-}
 
 // ZERO, ONE, TWO, HALF, PI and EPSILON. Refused with 1: a slice of another length than 6.
 pub fn scalar_constants(out: &mut [f64]) -> u8

@@ -152,7 +152,7 @@ pub extern "C" fn matrix_matmul(
 pub extern "C" fn matrix_matvec(r: usize, c: usize, a: &[f64], v: &[f64], out: &mut [f64]) -> u8
     ensures { λ t. ⌜ (t, now (out .exit)) ≡ given (now (out .entry)) (matvecIn r c (now (a .entry)) (now (v .entry)) (length (now (out .entry)))) ⌝ }
 {
-    c_matrix::vectors::matrix_matvec(r, c, a, v, out)
+    c_vector::matrix_matvec(r, c, a, v, out)
 }
 
 // A vector of r numbers times a transposed one of c.
@@ -160,40 +160,40 @@ pub extern "C" fn matrix_matvec(r: usize, c: usize, a: &[f64], v: &[f64], out: &
 pub extern "C" fn matrix_outer(r: usize, c: usize, v: &[f64], w: &[f64], out: &mut [f64]) -> u8
     ensures { λ t. ⌜ (t, now (out .exit)) ≡ given (now (out .entry)) (outerIn r c (now (v .entry)) (now (w .entry)) (length (now (out .entry)))) ⌝ }
 {
-    c_matrix::vectors::matrix_outer(r, c, v, w, out)
+    c_vector::matrix_outer(r, c, v, w, out)
 }
 
 #[no_mangle]
 pub extern "C" fn matrix_vec_add(n: usize, v: &[f64], w: &[f64], out: &mut [f64]) -> u8
     ensures { λ t. ⌜ (t, now (out .exit)) ≡ given (now (out .entry)) (vecAddIn n (now (v .entry)) (now (w .entry)) (length (now (out .entry)))) ⌝ }
 {
-    c_matrix::vectors::matrix_vec_add(n, v, w, out)
+    c_vector::matrix_vec_add(n, v, w, out)
 }
 
 #[no_mangle]
 pub extern "C" fn matrix_vec_sub(n: usize, v: &[f64], w: &[f64], out: &mut [f64]) -> u8
     ensures { λ t. ⌜ (t, now (out .exit)) ≡ given (now (out .entry)) (vecSubIn n (now (v .entry)) (now (w .entry)) (length (now (out .entry)))) ⌝ }
 {
-    c_matrix::vectors::matrix_vec_sub(n, v, w, out)
+    c_vector::matrix_vec_sub(n, v, w, out)
 }
 
 #[no_mangle]
 pub extern "C" fn matrix_vec_scale(n: usize, v: &[f64], s: f64, out: &mut [f64]) -> u8
     ensures { λ t. ⌜ (t, now (out .exit)) ≡ given (now (out .entry)) (vecScaleIn n (now (v .entry)) s (length (now (out .entry)))) ⌝ }
 {
-    c_matrix::vectors::matrix_vec_scale(n, v, s, out)
+    c_vector::matrix_vec_scale(n, v, s, out)
 }
 
 #[no_mangle]
 pub extern "C" fn matrix_vec_dot(n: usize, v: &[f64], w: &[f64], out: &mut f64) -> u8
     ensures { λ t. ⌜ (t, now (out .exit)) ≡ given (now (out .entry)) (dotIn n (now (v .entry)) (now (w .entry))) ⌝ }
 {
-    c_matrix::vectors::matrix_vec_dot(n, v, w, out)
+    c_vector::matrix_vec_dot(n, v, w, out)
 }
 
 #[no_mangle]
 pub extern "C" fn matrix_vec_norm(n: usize, v: &[f64], out: &mut f64) -> u8
     ensures { λ t. ⌜ (t, now (out .exit)) ≡ given (now (out .entry)) (vecNormIn n (now (v .entry))) ⌝ }
 {
-    c_matrix::vectors::matrix_vec_norm(n, v, out)
+    c_vector::matrix_vec_norm(n, v, out)
 }

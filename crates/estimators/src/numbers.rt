@@ -5,47 +5,49 @@ ghost use Rattle.root.specs.Root.{root as rootOf};
 ghost use Rattle.scalar.specs.Number.{abs, clamp, saturated, ofWhole};
 ghost use Rattle.answer.specs.Told.{given};
 ghost use Rattle.c_matrix.specs.Calls.{constantsIn};
+use scalar::ControlScalar;
+use scalar::PidScalar;
 
 #[no_mangle]
 pub extern "C" fn scalar_sqrt(x: f64) -> f64
     ensures { λ r. ⌜ r ≡ rootOf x ⌝ }
 {
-    c_matrix::numbers::scalar_sqrt(x)
+    ControlScalar::sqrt(x)
 }
 
 #[no_mangle]
 pub extern "C" fn scalar_abs(x: f64) -> f64
     ensures { λ r. ⌜ r ≡ abs x ⌝ }
 {
-    c_matrix::numbers::scalar_abs(x)
+    ControlScalar::abs(x)
 }
 
 #[no_mangle]
 pub extern "C" fn scalar_clamp_val(x: f64, min: f64, max: f64) -> f64
     ensures { λ r. ⌜ r ≡ clamp x min max ⌝ }
 {
-    c_matrix::numbers::scalar_clamp_val(x, min, max)
+    ControlScalar::clamp_val(x, min, max)
 }
 
 #[no_mangle]
 pub extern "C" fn scalar_saturate(x: f64, limit: f64) -> f64
     ensures { λ r. ⌜ r ≡ saturated x limit ⌝ }
 {
-    c_matrix::numbers::scalar_saturate(x, limit)
+    ControlScalar::saturate(x, limit)
 }
 
 #[no_mangle]
 pub extern "C" fn scalar_from_f64(v: f64) -> f64
     ensures { λ r. ⌜ r ≡ v ⌝ }
 {
-    c_matrix::numbers::scalar_from_f64(v)
+    ControlScalar::from_f64(v)
 }
 
 #[no_mangle]
 pub extern "C" fn scalar_to_f64(x: f64) -> f64
     ensures { λ r. ⌜ r ≡ x ⌝ }
 {
-    c_matrix::numbers::scalar_to_f64(x)
+    ControlScalar::to_f64(x)
 }
 
 // Not forwarded: a signed number handed on would need a proof about its bits.
@@ -60,14 +62,14 @@ pub extern "C" fn scalar_from_int(v: i32) -> f64
 pub extern "C" fn scalar_pid_abs(x: f64) -> f64
     ensures { λ r. ⌜ r ≡ abs x ⌝ }
 {
-    c_matrix::numbers::scalar_pid_abs(x)
+    PidScalar::abs(x)
 }
 
 #[no_mangle]
 pub extern "C" fn scalar_clamp_pid(x: f64, min: f64, max: f64) -> f64
     ensures { λ r. ⌜ r ≡ clamp x min max ⌝ }
 {
-    c_matrix::numbers::scalar_clamp_pid(x, min, max)
+    PidScalar::clamp_pid(x, min, max)
 }
 
 // ZERO, ONE, TWO, HALF, PI and EPSILON. Refused with 1: a slice of another length than 6.

@@ -1,8 +1,8 @@
 -- `matrix_vec_dot` meets its contract.
 use Rattle.algebra.specs.Matrix.{dot}
 use Rattle.c_matrix.proofs.Ways.{two-of, number-handed, paired-true, refuses, none}
-use Rattle.c_matrix.proofs.vectors.matrix_vec_dot.Statement.{statement}
-use Rattle.c_matrix.proofs.vectors.matrix_vec_dot.Tie as tie
+use Rattle.c_vector.proofs.matrix_vec_dot.Statement.{statement}
+use Rattle.c_vector.proofs.matrix_vec_dot.Tie as tie
 
 returns : tie.Need-returns
 returns c =

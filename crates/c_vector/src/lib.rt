@@ -1,20 +1,29 @@
-// src/core/matrix.rs, the functions on vectors: each is a slice of its numbers. Refused with 1: a size, or a slice of another
-// length.
+// src/core/matrix.rs on slices that the caller lends, the functions on vectors: each is a slice of its numbers. Refused with 1: a
+// size, or a slice of another length.
 ghost use mathlib.Core.Path.{_≡_};
+ghost use mathlib.Core.Bool.{true};
 ghost use lib.ListN.{length};
 ghost use Rattle.answer.specs.Told.{given};
+ghost use Rattle.algebra.specs.Array.{cut};
+ghost use Rattle.c_matrix.specs.Slices.{isVector};
 ghost use Rattle.c_matrix.specs.Calls.{matvecIn, outerIn, vecAddIn, vecSubIn, vecScaleIn, dotIn, vecNormIn};
-use crate::are_three_matrices;
-use crate::are_two_matrices;
-use crate::give_matrix;
-use crate::give_scalar;
-use crate::is_matrix;
-use crate::numbers_in;
+use c_matrix::are_three_matrices;
+use c_matrix::are_two_matrices;
+use c_matrix::give_matrix;
+use c_matrix::give_scalar;
+use c_matrix::is_matrix;
 use layout::matrix_at;
 use layout::put_vector;
 use layout::vector_at;
 use matrix::kernel;
 use matrix::size_of;
+
+// What a slice holds, where it has passed the test.
+fn numbers_in(v: &[f64], n: usize) -> [f64; 4]
+    ensures { λ x. ⌜ (isVector n (length (now (v .entry))) ≡ true → cut n x ≡ now (v .entry)) ⌝ }
+{
+    layout::vector_at(v, 0, matrix::size_of(n))
+}
 
 // r rows and c columns times a vector of c numbers.
 pub fn matrix_matvec(r: usize, c: usize, a: &[f64], v: &[f64], out: &mut [f64]) -> u8

@@ -1,9 +1,9 @@
 -- `matrix_outer` meets its contract.
 use Rattle.algebra.specs.Matrix.{outer}
 use Rattle.algebra.proofs.Matrices.{shape-outer}
 use Rattle.c_matrix.proofs.Ways.{three-of, matrix-handed, refuses, none}
-use Rattle.c_matrix.proofs.vectors.matrix_outer.Statement.{statement}
-use Rattle.c_matrix.proofs.vectors.matrix_outer.Tie as tie
+use Rattle.c_vector.proofs.matrix_outer.Statement.{statement}
+use Rattle.c_vector.proofs.matrix_outer.Tie as tie
 
 returns : tie.Need-returns
 returns c =

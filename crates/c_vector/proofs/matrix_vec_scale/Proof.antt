@@ -12,9 +12,9 @@ use Rattle.algebra.specs.Matrix.{at, vecScale}
 use Rattle.algebra.specs.Array.{cut}
 use Rattle.algebra.proofs.Vectors.{each-cut}
 use Rattle.matrix.proofs.Sizes.{Bounds, bounds-of}
 use Rattle.c_matrix.proofs.Ways.{rows-at, two-of, vector-in, told, vector-out, refuses, none}
-use Rattle.c_matrix.proofs.vectors.matrix_vec_scale.Statement.{statement}
-use Rattle.c_matrix.proofs.vectors.matrix_vec_scale.Tie as tie
+use Rattle.c_vector.proofs.matrix_vec_scale.Statement.{statement}
+use Rattle.c_vector.proofs.matrix_vec_scale.Tie as tie
 
 scaled-cut : (n : ℕ) (x : List Float) (s : Float) → Bounds n → cut n (vecScale 4 x s) ≡ vecScale n (cut n x) s
 unfolding cut vecScale
