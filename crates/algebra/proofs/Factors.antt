@@ -9,9 +9,9 @@ use lib.ListN.{length, length-append}
 use lib.Ieee.{Float}
 use Rattle.root.specs.Root.{root}
 use Rattle.scalar.specs.Number.{_⊖_, _⊘_, +0}
-use Rattle.answer.specs.Answer.{Answer, refused, answered, and-then, mapped}
+use Rattle.answer.specs.Answer.{refused, answered, and-then, mapped}
 use Rattle.answer.specs.Table.{padTo}
-use Rattle.algebra.specs.Matrix.{Vector, Matrix, at, row, cell, dot, sumFrom, oneByOne}
+use Rattle.algebra.specs.Matrix.{Vector, Matrix, at, row, cell, dot}
 use Rattle.algebra.specs.Array.{used}
 use Rattle.answer.proofs.Tables.{length-padTo}
 use Rattle.algebra.proofs.Matrices.{Shape, shape-more}
@@ -53,15 +53,6 @@ shape-cholesky n A L e = shape-rows n A n L (le-refl n) e
 pub refused-cholesky : (n : ℕ) (A : Matrix) (k : ℕ) → cholesky n A ≡ refused k → k ≡ 4
 unfolding cholesky
 refused-cholesky n A k e = number-of (told-rows n A n (le-refl n)) e
-
--- the factor of a matrix of one cell
-pub number-cholesky : (x : Float) → cholesky 1 (oneByOne x) ≡ mapped oneByOne (diagonalOf (x ⊖ +0))
-unfolding cholesky factorRows factorRow leftCells dot sumFrom
-number-cholesky x = within (diagonalOf (x ⊖ +0))
-  where
-    within : (o : Answer Float) → mapped (λ v. v ∷ []) (mapped (λ y. padTo 1 +0 (y ∷ [])) o) ≡ mapped oneByOne o
-    within (refused k) = refl
-    within (answered y) = refl
 
 -- ---- what is read: of A the lower triangle, and of the rows above what stands up to their diagonals
 pub left-ext : (a b : Vector) (L M : Matrix) (i : ℕ) → ((j : ℕ) → j < i → at a j ≡ at b j) → ((j k : ℕ) → j < i → k ≤ j → cell L j k ≡ cell M j k)

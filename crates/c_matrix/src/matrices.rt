@@ -102,11 +102,12 @@ pub fn matrix_cholesky(n: usize, a: &[f64], out: &mut [f64]) -> u8
     ensures { λ t. ⌜ (t, now (out .exit)) ≡ given (now (out .entry)) (choleskyIn n (now (a .entry)) (length (now (out .entry)))) ⌝ }
 {
     if are_two_matrices(n, n, a.len(), n, n, out.len()) {
-        if n == 1 {
-            return give_number(out, cholesky::diagonal_root(a[0] - 0.0));
-        }
         let s = size_of(n);
-        let x = matrix_at(a, 0, s, s);
+        let r0 = vector_at(a, 0, s);
+        let r1 = vector_at(a, n, s);
+        let r2 = vector_at(a, 2 * n, s);
+        let r3 = vector_at(a, 3 * n, s);
+        let x = [r0, r1, r2, r3];
         give_matrix(out, cholesky::factor_of(&x, s), n, n)
     } else {
         1

@@ -44,10 +44,6 @@ returns c =
 pub steps-spec : {M : Type 1} → statement M
 steps-spec =
     tie.close
-    (tie.spec
-    Inv-loop μ-loop loop-holds
-    (λ c κs. search needs) (λ c κs. search needs)
+    (tie.spec Inv-loop μ-loop loop-holds (λ c κs. search needs) (λ c κs. search needs)
     (λ c. omega (arith, c .before .before .before .before, c .before .before .before .before .before .before .fits))
-    (λ c. omega (arith, c .before .before .before .before))
-    loop-again
-    returns)
+    (λ c. omega (arith, c .before .before .before .before)) loop-again returns)

@@ -13,14 +13,6 @@ returns c = (omega arith, omega (arith, few c))
 pub estimate-from-spec : {M : Type 1} → statement M
 estimate-from-spec =
     tie.close
-    (tie.spec
-    (λ c. omega (arith, few c))
-    (λ c. omega (arith, few c))
-    (λ c. omega (arith, few c))
-    (λ c. omega (arith, few c))
-    (λ c. omega (arith, few c))
-    (λ c. omega (arith, few c))
-    (λ c. omega (arith, few c))
-    (λ c. omega (arith, few c))
-    (λ c. omega (arith, few c))
-    returns)
+    (tie.spec (λ c. omega (arith, few c)) (λ c. omega (arith, few c)) (λ c. omega (arith, few c)) (λ c. omega (arith, few c))
+    (λ c. omega (arith, few c)) (λ c. omega (arith, few c)) (λ c. omega (arith, few c)) (λ c. omega (arith, few c))
+    (λ c. omega (arith, few c)) returns)

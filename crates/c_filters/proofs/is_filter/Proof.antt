@@ -26,11 +26,5 @@ returns-2 c = let a = c .before .before .args in filter-unsized (a .n) (a .m) (a
 pub is-filter-spec : {M : Type 1} → statement M
 is-filter-spec =
     tie.close
-    (tie.spec
-    (λ c κs. search needs)
-    (λ c κs. sizes c)
-    (λ c. omega (arith, few c))
-    (λ c. omega (arith, few c))
-    (λ c. omega (arith, few c, c .estimate-from .ensures))
-    returns
-    returns-2)
+    (tie.spec (λ c κs. search needs) (λ c κs. sizes c) (λ c. omega (arith, few c)) (λ c. omega (arith, few c))
+    (λ c. omega (arith, few c, c .estimate-from .ensures)) returns returns-2)

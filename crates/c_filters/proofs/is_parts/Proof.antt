@@ -28,16 +28,7 @@ returns-2 c = and-failed _ _ (c .before .is-filter .ensures) (c .if1 .left)
 pub is-parts-spec : {M : Type 1} → statement M
 is-parts-spec =
     tie.close
-    (tie.spec
-    (λ c κs. search needs)
-    (λ c. omega (arith, few c))
-    (λ c. omega (arith, few c))
-    (λ c. omega (arith, few c))
-    (λ c κs. search needs) (λ c κs. search needs)
-    (λ c. omega (arith, few (c .before .before)))
-    (λ c. omega (arith, few (c .before .before)))
-    (λ c κs. search needs)
-    (λ c. omega (arith, few (c .before .before .before)))
-    (λ c κs. search needs) (λ c κs. search needs) (λ c κs. search needs)
-    returns
-    returns-2)
+    (tie.spec (λ c κs. search needs) (λ c. omega (arith, few c)) (λ c. omega (arith, few c)) (λ c. omega (arith, few c))
+    (λ c κs. search needs) (λ c κs. search needs) (λ c. omega (arith, few (c .before .before)))
+    (λ c. omega (arith, few (c .before .before))) (λ c κs. search needs) (λ c. omega (arith, few (c .before .before .before)))
+    (λ c κs. search needs) (λ c κs. search needs) (λ c κs. search needs) returns returns-2)

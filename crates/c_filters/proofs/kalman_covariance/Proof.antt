@@ -55,16 +55,10 @@ returns-3 c =
 pub kalman-covariance-spec : {M : Type 1} → statement M
 kalman-covariance-spec =
     tie.close
-    (tie.spec
-    (λ c κs. search needs)
-    (λ c. omega (arith, test c .few))
-    (λ c κs. test (c .before) .sizes)
-    (λ c. omega (arith, test (c .before .before) .few, c .estimate-from .ensures))
-    (λ c. search needs)
+    (tie.spec (λ c κs. search needs) (λ c. omega (arith, test c .few)) (λ c κs. test (c .before) .sizes)
+    (λ c. omega (arith, test (c .before .before) .few, c .estimate-from .ensures)) (λ c. search needs)
     (λ c. omega (arith, test (c .before .before) .few, c .estimate-from .ensures))
     (λ c. omega (arith, test (c .before .before .before) .few, c .before .estimate-from .ensures))
     (λ c. search needs) (λ c. search needs)
     (λ c. omega (arith, test (c .before .before .before) .long, c .before .estimate-from .ensures))
-    (λ c κs. search needs) (λ c. search needs)
-    returns returns-2
-    returns-3)
+    (λ c κs. search needs) (λ c. search needs) returns returns-2 returns-3)

@@ -48,14 +48,8 @@ returns-2 c =
 pub kalman-new-spec : {M : Type 1} → statement M
 kalman-new-spec =
     tie.close
-    (tie.spec
-    (λ c κs. search needs)
-    (λ c. omega (arith, test c, test c .whole .few))
-    (λ c. omega (arith, test c, test c .whole .few))
-    (λ c. omega (arith, test c, test c .whole .few))
-    (λ c. omega (arith, test c, test c .whole .few))
-    (λ c. omega (arith, test c, test c .whole .few))
+    (tie.spec (λ c κs. search needs) (λ c. omega (arith, test c, test c .whole .few))
+    (λ c. omega (arith, test c, test c .whole .few)) (λ c. omega (arith, test c, test c .whole .few))
+    (λ c. omega (arith, test c, test c .whole .few)) (λ c. omega (arith, test c, test c .whole .few))
     (λ c κs. search needs) (λ c κs. search needs) (λ c κs. search needs) (λ c κs. search needs) (λ c κs. search needs)
-    (λ c κs. search needs) (λ c κs. search needs) (λ c. search needs)
-    returns
-    returns-2)
+    (λ c κs. search needs) (λ c κs. search needs) (λ c. search needs) returns returns-2)

@@ -22,13 +22,7 @@ returns c =
 pub kalman-predict-spec : {M : Type 1} → statement M
 kalman-predict-spec =
     tie.close
-    (tie.spec
-    (λ c κs. search needs)
-    (λ c κs. road (c .before) .long)
-    (λ c. omega (arith, road (c .before .before .before) .one))
-    (λ c κs. search needs)
-    (λ c κs. road (c .before .before .before .before .before) .long)
-    (λ c. search needs)
-    returns
-    (λ c κs. search needs) (λ c. search needs)
-    (λ c. search needs))
+    (tie.spec (λ c κs. search needs) (λ c κs. road (c .before) .long)
+    (λ c. omega (arith, road (c .before .before .before) .one)) (λ c κs. search needs)
+    (λ c κs. road (c .before .before .before .before .before) .long) (λ c. search needs) returns
+    (λ c κs. search needs) (λ c. search needs) (λ c. search needs))

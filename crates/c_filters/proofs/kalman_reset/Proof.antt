@@ -63,12 +63,7 @@ returns-3 c =
 pub kalman-reset-spec : {M : Type 1} → statement M
 kalman-reset-spec =
     tie.close
-    (tie.spec
-    (λ c κs. search needs)
-    (λ c. omega (arith, test c .whole .few))
-    (λ c κs. test (c .before) .whole .sizes)
+    (tie.spec (λ c κs. search needs) (λ c. omega (arith, test c .whole .few)) (λ c κs. test (c .before) .whole .sizes)
     (λ c κs. search needs)
     (λ c. let k = c .before .before .before .before .before in omega (arith, test (k .before .before) .whole .few, k .estimate-from .ensures))
-    (λ c κs. search needs) (λ c. search needs)
-    returns returns-2
-    returns-3)
+    (λ c κs. search needs) (λ c. search needs) returns returns-2 returns-3)

@@ -37,12 +37,8 @@ returns-2 c = let a = c .before .before .before .before .args in ap (by (a .n) (
 pub kalman-state-spec : {M : Type 1} → statement M
 kalman-state-spec =
     tie.close
-    (tie.spec
-    (λ c κs. search needs)
-    (λ c κs. test c .whole .sizes)
+    (tie.spec (λ c κs. search needs) (λ c κs. test c .whole .sizes)
     (λ c. omega (arith, test (c .before) .whole .few, c .estimate-from .ensures))
     (λ c. search needs) (λ c. search needs) (λ c. search needs)
     (λ c. omega (arith, test (c .before .before) .whole .long, c .before .estimate-from .ensures))
-    (λ c κs. search needs) (λ c. search needs)
-    returns
-    returns-2)
+    (λ c κs. search needs) (λ c. search needs) returns returns-2)

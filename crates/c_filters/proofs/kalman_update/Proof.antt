@@ -48,16 +48,9 @@ returns-2 c =
 pub kalman-update-spec : {M : Type 1} → statement M
 kalman-update-spec =
     tie.close
-    (tie.spec
-    (λ c κs. search needs) (λ c κs. search needs)
-    (λ c κs. road (c .before) .long)
-    (λ c. omega (arith, road (c .before .before .before) .one))
-    (λ c κs. search needs) (λ c. search needs)
+    (tie.spec (λ c κs. search needs) (λ c κs. search needs) (λ c κs. road (c .before) .long)
+    (λ c. omega (arith, road (c .before .before .before) .one)) (λ c κs. search needs) (λ c. search needs)
     (λ c κs. road (c .before .before .before .before .before .before .before .before .before) .long)
     (λ c. omega (arith, room (c .before .before .before .before .before .before .before .before .before .before .before .before)))
-    (λ c. search needs) (λ c. search needs)
-    returns
-    (λ c. search needs) (λ c. search needs)
-    returns-2
-    (λ c κs. search needs) (λ c. search needs) (λ c. search needs)
-    (λ c. search needs))
+    (λ c. search needs) (λ c. search needs) returns (λ c. search needs) (λ c. search needs) returns-2
+    (λ c κs. search needs) (λ c. search needs) (λ c. search needs) (λ c. search needs))

@@ -49,13 +49,9 @@ returns-2 c = let g = c .before .before .before .before .args in ap (by (g .n) (
 pub predict-rows-spec : {M : Type 1} → statement M
 predict-rows-spec =
     tie.close
-    (tie.spec
-    (λ c κs. search needs)
-    (λ c κs. test c .whole .sizes)
+    (tie.spec (λ c κs. search needs) (λ c κs. test c .whole .sizes)
     (λ c κs. search needs) (λ c κs. search needs) (λ c κs. search needs) (λ c. search needs) (λ c κs. search needs)
     (λ c. search needs) (λ c. search needs) (λ c. search needs) (λ c. search needs) (λ c. search needs)
     (λ c κs. search needs) (λ c κs. search needs) (λ c κs. search needs)
     (λ c. let k = c .before .before .before .before .before .before .before .before .before .before .before .before in omega (arith, test (k .before) .whole .few, k .estimate-from .ensures))
-    (λ c κs. search needs) (λ c κs. search needs) (λ c κs. search needs) (λ c. search needs)
-    returns
-    returns-2)
+    (λ c κs. search needs) (λ c κs. search needs) (λ c κs. search needs) (λ c. search needs) returns returns-2)

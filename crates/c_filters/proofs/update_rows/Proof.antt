@@ -91,17 +91,11 @@ returns-3 c =
 pub update-rows-spec : {M : Type 1} → statement M
 update-rows-spec =
     tie.close
-    (tie.spec
-    (λ c κs. search needs) (λ c κs. search needs)
-    (λ c κs. test c .whole .sizes)
+    (tie.spec (λ c κs. search needs) (λ c κs. search needs) (λ c κs. test c .whole .sizes)
     (λ c κs. search needs) (λ c κs. search needs) (λ c. search needs) (λ c. search needs) (λ c. search needs)
     (λ c κs. search needs) (λ c. search needs) (λ c. search needs) (λ c. search needs) (λ c. search needs)
     (λ c. search needs) (λ c. search needs) (λ c. search needs) (λ c κs. search needs) (λ c κs. search needs)
     (λ c κs. search needs)
     (λ c. let k = c .before .before .before .before .before .before .before .before .before .before in omega (arith, test (k .before) .whole .few, k .estimate-from .ensures))
     (λ c κs. search needs) (λ c κs. search needs) (λ c. search needs) (λ c κs. search needs) (λ c κs. search needs)
-    (λ c. search needs) (λ c. search needs) (λ c. search needs)
-    returns
-    (λ c. search needs)
-    returns-2
-    returns-3)
+    (λ c. search needs) (λ c. search needs) (λ c. search needs) returns (λ c. search needs) returns-2 returns-3)

@@ -17,10 +17,7 @@ few c = let N = bounds-of _ (sym (c .before .is-size .ensures) ∙ c .if1 .taken
 pub is-pairs-spec : {M : Type 1} → statement M
 is-pairs-spec =
     tie.close
-    (tie.spec
-    (λ c κs. search needs)
-    (λ c. omega (arith, few c))
-    (λ c. omega (arith, few c))
+    (tie.spec (λ c κs. search needs) (λ c. omega (arith, few c)) (λ c. omega (arith, few c))
     (λ c. let n = c .before .before .args .n in omega (arith, few c, mul-le-mul-right (n + n * n) (c .before .before .pre)))
     (λ c. pairs-tested _ _ (c .before .is-size .ensures) _ (c .if1 .taken))
     (λ c. pairs-unsized _ _ (c .before .is-size .ensures) _ (c .if1 .left)))

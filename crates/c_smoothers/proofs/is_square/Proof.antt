@@ -15,8 +15,6 @@ few c = let N = bounds-of _ (sym (c .before .is-size .ensures) ∙ c .if1 .taken
 pub is-square-spec : {M : Type 1} → statement M
 is-square-spec =
     tie.close
-    (tie.spec
-    (λ c κs. search needs)
-    (λ c. omega (arith, few c))
+    (tie.spec (λ c κs. search needs) (λ c. omega (arith, few c))
     (λ c. square-tested _ _ (c .before .is-size .ensures) (c .if1 .taken))
     (λ c. square-unsized _ _ (c .before .is-size .ensures) (c .if1 .left)))

@@ -40,13 +40,7 @@ returns-3 c =
 pub rts-smoother-get-state-spec : {M : Type 1} → statement M
 rts-smoother-get-state-spec =
     tie.close
-    (tie.spec
-    (λ c κs. search needs) (λ c κs. search needs) (λ c κs. search needs) (λ c κs. search needs)
-    (λ c. omega (arith, reading c .slot))
-    (λ c. omega (arith, reading c .slot))
-    (λ c. omega (arith, reading (c .before) .slot))
-    (λ c. search needs) (λ c. search needs)
-    (λ c. omega (arith, reading (c .before) .slot))
-    (λ c κs. search needs) (λ c. search needs)
-    returns returns-2
-    returns-3)
+    (tie.spec (λ c κs. search needs) (λ c κs. search needs) (λ c κs. search needs) (λ c κs. search needs)
+    (λ c. omega (arith, reading c .slot)) (λ c. omega (arith, reading c .slot)) (λ c. omega (arith, reading (c .before) .slot))
+    (λ c. search needs) (λ c. search needs) (λ c. omega (arith, reading (c .before) .slot))
+    (λ c κs. search needs) (λ c. search needs) returns returns-2 returns-3)

@@ -45,12 +45,7 @@ returns-3 c =
 pub rts-smoother-store-forward-spec : {M : Type 1} → statement M
 rts-smoother-store-forward-spec =
     tie.close
-    (tie.spec
-    (λ c κs. search needs) (λ c κs. search needs) (λ c κs. search needs) (λ c κs. search needs) (λ c κs. search needs)
-    (λ c κs. search needs)
-    (λ c. omega (arith, storing c .slot))
-    (λ c κs. search needs)
+    (tie.spec (λ c κs. search needs) (λ c κs. search needs) (λ c κs. search needs) (λ c κs. search needs) (λ c κs. search needs)
+    (λ c κs. search needs) (λ c. omega (arith, storing c .slot)) (λ c κs. search needs)
     (λ c. let s = storing (c .before .before .before .before .before) in omega (arith, s .slot, s .first))
-    (λ c κs. search needs) (λ c. search needs) (λ c. search needs)
-    returns returns-2
-    returns-3)
+    (λ c κs. search needs) (λ c. search needs) (λ c. search needs) returns returns-2 returns-3)

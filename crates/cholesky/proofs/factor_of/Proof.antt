@@ -52,17 +52,7 @@ returns-2 c =
 pub factor-of-spec : {M : Type 1} → statement M
 factor-of-spec =
     tie.close
-    (tie.spec
-    Inv-loop μ-loop
-    (λ c κs. tt)
-    loop-holds
-    (λ c κs. omega arith)
-    (λ c. omega arith) (λ c. omega arith) (λ c. omega arith) (λ c. omega arith)
-    (λ c κs. tt) (λ c κs. tt) (λ c. search needs)
-    (λ c κs. tt) (λ c. omega arith) (λ c. omega arith)
-    (λ c. search needs) (λ c κs. tt)
-    returns
-    (λ c. omega arith) (λ c. omega arith)
-    loop-again
-    (λ c κs. tt)
-    returns-2)
+    (tie.spec Inv-loop μ-loop (λ c κs. tt) loop-holds (λ c κs. omega arith)
+    (λ c. omega arith) (λ c. omega arith) (λ c. omega arith) (λ c. omega arith) (λ c κs. tt) (λ c κs. tt) (λ c. search needs)
+    (λ c κs. tt) (λ c. omega arith) (λ c. omega arith) (λ c. search needs) (λ c κs. tt) returns
+    (λ c. omega arith) (λ c. omega arith) loop-again (λ c κs. tt) returns-2)

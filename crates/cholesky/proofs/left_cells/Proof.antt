@@ -27,11 +27,7 @@ returns c = lefts-all (c .before .loop .inv) (omega arith)
 pub left-cells-spec : {M : Type 1} → statement M
 left-cells-spec =
     tie.close
-    (tie.spec
-    Inv-loop μ-loop loop-holds
-    (λ c. omega arith) (λ c. omega arith) (λ c κs. tt) (λ c. omega arith)
+    (tie.spec Inv-loop μ-loop loop-holds (λ c. omega arith) (λ c. omega arith) (λ c κs. tt) (λ c. omega arith)
     (λ c. omega arith) (λ c. omega arith) (λ c. omega arith) (λ c. omega arith)
     (λ c. omega arith) (λ c. omega arith) (λ c. omega arith) (λ c. omega arith)
-    (λ c. omega arith) (λ c. omega arith) (λ c. omega arith)
-    loop-again
-    returns)
+    (λ c. omega arith) (λ c. omega arith) (λ c. omega arith) loop-again returns)

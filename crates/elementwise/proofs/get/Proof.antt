@@ -25,8 +25,6 @@ returns-2 c = scalar-refused _ (sym (c .before .is-inside .ensures) ∙ c .if1 .
 pub get-spec : {M : Type 1} → statement M
 get-spec =
     tie.close
-    (tie.spec
-    (λ c κs. tt)
+    (tie.spec (λ c κs. tt)
     (λ c. omega (arith, place c)) (λ c. omega (arith, place c)) (λ c. omega (arith, place c)) (λ c. omega (arith, place c))
-    returns
-    returns-2)
+    returns returns-2)

@@ -16,9 +16,5 @@ returns c =
 pub scaled-spec : {M : Type 1} → statement M
 scaled-spec =
     tie.close
-    (tie.spec
-    (λ c. omega arith) (λ c κs. tt)
-    (λ c. omega arith) (λ c κs. tt)
-    (λ c. omega arith) (λ c κs. tt)
-    (λ c. omega arith) (λ c κs. tt)
-    returns)
+    (tie.spec (λ c. omega arith) (λ c κs. tt) (λ c. omega arith) (λ c κs. tt) (λ c. omega arith) (λ c κs. tt)
+    (λ c. omega arith) (λ c κs. tt) returns)

@@ -33,12 +33,8 @@ returns-2 c = c .matrix-refused .ensures ∙ matrix-refused _ (sym (c .before .b
 pub set-spec : {M : Type 1} → statement M
 set-spec =
     tie.close
-    (tie.spec
-    (λ c κs. tt) (λ c κs. tt) (λ c κs. tt) (λ c κs. tt)
+    (tie.spec (λ c κs. tt) (λ c κs. tt) (λ c κs. tt) (λ c κs. tt)
     (λ c. omega (arith, place (c .before .before .before .before)))
     (λ c. omega (arith, place (c .before .before .before .before)))
     (λ c. omega (arith, place (c .before .before .before .before)))
-    (λ c. omega (arith, place (c .before .before .before .before)))
-    (λ c κs. tt) (λ c κs. tt)
-    returns
-    returns-2)
+    (λ c. omega (arith, place (c .before .before .before .before))) (λ c κs. tt) (λ c κs. tt) returns returns-2)

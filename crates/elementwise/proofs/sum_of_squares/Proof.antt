@@ -25,12 +25,5 @@ returns c = squaring-all (c .before .loop .inv .1) (omega arith) (c .before .bef
 pub sum-of-squares-spec : {M : Type 1} → statement M
 sum-of-squares-spec =
     tie.close
-    (tie.spec
-    Inv-loop μ-loop
-    (λ c κs. tt)
-    loop-holds
-    (λ c. omega arith) (λ c. omega arith)
-    (λ c κs. tt)
-    (λ c. omega arith) (λ c. omega arith)
-    loop-again
-    returns)
+    (tie.spec Inv-loop μ-loop (λ c κs. tt) loop-holds (λ c. omega arith) (λ c. omega arith) (λ c κs. tt)
+    (λ c. omega arith) (λ c. omega arith) loop-again returns)

@@ -41,5 +41,4 @@ clear-column-spec =
     (λ c. omega (arith, bounds (c .before .before .before .before .args .n))) (λ c. omega (arith, bounds (c .before .before .before .before .args .n)))
     (λ c κs. omega (arith, bounds (c .before .before .before .before .before .before .args .n))) (λ c κs. omega (arith, bounds (c .before .before .before .before .before .before .before .before .args .n)))
     (λ c κs. omega (arith, bounds (c .before .before .before .before .before .before .before .before .before .before .args .n)))
-    reduce-rows-requires reduce-rows-requires-2
-    returns)
+    reduce-rows-requires reduce-rows-requires-2 returns)

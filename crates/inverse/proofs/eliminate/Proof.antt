@@ -43,15 +43,7 @@ returns-2 c =
 pub eliminate-spec : {M : Type 1} → statement M
 eliminate-spec =
     tie.close
-    (tie.spec
-    Inv-loop μ-loop
-    (λ c κs. tt) (λ c. omega arith) (λ c. omega arith) (λ c. omega arith)
-    (λ c. omega arith) (λ c κs. tt)
-    loop-holds
-    (λ c κs. omega arith) (λ c. omega arith) (λ c. omega arith) (λ c. omega arith)
-    (λ c. omega arith) (λ c κs. tt) (λ c κs. tt)
-    returns
-    (λ c κs. omega arith) (λ c. omega arith) (λ c. omega arith)
-    loop-again
-    (λ c κs. tt) (λ c κs. tt)
-    returns-2)
+    (tie.spec Inv-loop μ-loop (λ c κs. tt) (λ c. omega arith) (λ c. omega arith) (λ c. omega arith)
+    (λ c. omega arith) (λ c κs. tt) loop-holds (λ c κs. omega arith) (λ c. omega arith) (λ c. omega arith) (λ c. omega arith)
+    (λ c. omega arith) (λ c κs. tt) (λ c κs. tt) returns (λ c κs. omega arith) (λ c. omega arith) (λ c. omega arith) loop-again
+    (λ c κs. tt) (λ c κs. tt) returns-2)

@@ -42,14 +42,7 @@ returns-4 c = if-refused asMatrix _ (sym (c .before .before .is-size .ensures) �
 pub inv-spec : {M : Type 1} → statement M
 inv-spec =
     tie.close
-    (tie.spec
-    (λ c κs. tt) (λ c κs. tt)
-    (λ c. search needs) (λ c. search needs) (λ c. search needs) (λ c κs. tt)
-    (λ c. search needs)
-    (λ c. search needs) (λ c. search needs) (λ c. search needs) (λ c. search needs)
-    (λ c. search needs) (λ c. search needs) (λ c. search needs) (λ c. search needs)
-    (λ c κs. tt) (λ c κs. tt)
-    (λ c κs. tt) (λ c κs. tt)
-    (λ c κs. tt)
-    returns returns-2 returns-3
-    returns-4)
+    (tie.spec (λ c κs. tt) (λ c κs. tt) (λ c. search needs) (λ c. search needs) (λ c. search needs) (λ c κs. tt)
+    (λ c. search needs) (λ c. search needs) (λ c. search needs) (λ c. search needs) (λ c. search needs)
+    (λ c. search needs) (λ c. search needs) (λ c. search needs) (λ c. search needs) (λ c κs. tt) (λ c κs. tt)
+    (λ c κs. tt) (λ c κs. tt) (λ c κs. tt) returns returns-2 returns-3 returns-4)

@@ -22,11 +22,7 @@ returns-2 c =
 pub inverse-of-spec : {M : Type 1} → statement M
 inverse-of-spec =
     tie.close
-    (tie.spec
-    (λ c. search needs) (λ c. search needs) (λ c. search needs) (λ c κs. tt)
-    (λ c. search needs)
+    (tie.spec (λ c. search needs) (λ c. search needs) (λ c. search needs) (λ c κs. tt) (λ c. search needs)
     (λ c. search needs) (λ c. search needs) (λ c. search needs) (λ c. search needs)
-    (λ c. search needs) (λ c. search needs) (λ c. search needs) (λ c. search needs)
-    (λ c κs. tt) (λ c κs. tt) (λ c κs. tt)
-    returns returns-2
-    (λ c. c .eliminate .ensures))
+    (λ c. search needs) (λ c. search needs) (λ c. search needs) (λ c. search needs) (λ c κs. tt) (λ c κs. tt) (λ c κs. tt)
+    returns returns-2 (λ c. c .eliminate .ensures))

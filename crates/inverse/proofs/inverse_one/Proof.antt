@@ -27,8 +27,4 @@ returns-2 c =
 pub inverse-one-spec : {M : Type 1} → statement M
 inverse-one-spec =
     tie.close
-    (tie.spec
-    (λ c κs. tt) (λ c. search needs) (λ c κs. tt) (λ c. search needs)
-    (λ c κs. tt)
-    returns
-    returns-2)
+    (tie.spec (λ c κs. tt) (λ c. search needs) (λ c κs. tt) (λ c. search needs) (λ c κs. tt) returns returns-2)

@@ -42,14 +42,9 @@ returns c =
 pub pivot-row-spec : {M : Type 1} → statement M
 pivot-row-spec =
     tie.close
-    (tie.spec
-    Inv-loop μ-loop
-    (λ c κs. tt)
+    (tie.spec Inv-loop μ-loop (λ c κs. tt)
     (λ c. omega (arith, bounds (c .before .args .n))) (λ c. omega (arith, bounds (c .before .args .n)))
     (λ c. omega (arith, bounds (c .before .args .n))) (λ c. omega (arith, bounds (c .before .args .n)))
-    (λ c κs. tt) (λ c. omega (arith, bounds (c .before .before .before .args .n)))
-    loop-holds
+    (λ c κs. tt) (λ c. omega (arith, bounds (c .before .before .before .args .n))) loop-holds
     (λ c. omega arith) (λ c. omega arith) (λ c. omega arith) (λ c. omega arith)
-    (λ c κs. tt) (λ c. omega arith) (λ c. omega arith)
-    loop-again
-    returns)
+    (λ c κs. tt) (λ c. omega arith) (λ c. omega arith) loop-again returns)

@@ -33,8 +33,5 @@ returns c =
 pub read-again-spec : {M : Type 1} → statement M
 read-again-spec =
     tie.close
-    (tie.spec
-    (λ c κs. tt) (λ c. search needs) (λ c κs. tt) (λ c. search needs)
-    (λ c κs. tt) (λ c. search needs) (λ c κs. tt) (λ c. search needs)
-    (λ c κs. tt) (λ c κs. tt)
-    returns)
+    (tie.spec (λ c κs. tt) (λ c. search needs) (λ c κs. tt) (λ c. search needs)
+    (λ c κs. tt) (λ c. search needs) (λ c κs. tt) (λ c. search needs) (λ c κs. tt) (λ c κs. tt) returns)

@@ -36,14 +36,9 @@ returns c =
 pub reduce-rows-spec : {M : Type 1} → statement M
 reduce-rows-spec =
     tie.close
-    (tie.spec
-    Inv-loop μ-loop
-    (λ c κs. tt)
-    (λ c. omega (arith, bounds (c .before .args .n))) (λ c. omega (arith, bounds (c .before .args .n)))
-    loop-holds
+    (tie.spec Inv-loop μ-loop (λ c κs. tt)
+    (λ c. omega (arith, bounds (c .before .args .n))) (λ c. omega (arith, bounds (c .before .args .n))) loop-holds
     (λ c. omega arith) (λ c. omega arith) (λ c. omega arith) (λ c. omega arith)
     (λ c. omega arith) (λ c. omega arith) (λ c. omega arith) (λ c. omega arith)
     (λ c. omega arith) (λ c. omega arith) (λ c. omega arith) (λ c. omega arith)
-    (λ c. omega arith) (λ c. omega arith) (λ c. omega arith) (λ c. omega arith)
-    loop-again
-    returns)
+    (λ c. omega arith) (λ c. omega arith) (λ c. omega arith) (λ c. omega arith) loop-again returns)

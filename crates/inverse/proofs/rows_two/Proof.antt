@@ -11,7 +11,4 @@ returns c = c .matrix-result .ensures
 pub rows-two-spec : {M : Type 1} → statement M
 rows-two-spec =
     tie.close
-    (tie.spec
-    (λ c. search needs) (λ c. search needs) (λ c. search needs) (λ c. search needs)
-    (λ c κs. tt)
-    returns)
+    (tie.spec (λ c. search needs) (λ c. search needs) (λ c. search needs) (λ c. search needs) (λ c κs. tt) returns)

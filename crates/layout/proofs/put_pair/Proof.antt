@@ -49,14 +49,7 @@ returns-2 c =
 pub put-pair-spec : {M : Type 1} → statement M
 put-pair-spec =
     tie.close
-    (tie.spec
-    (λ c κs. tt)
-    (λ c. omega (arith, small c))
-    (λ c. omega (arith, small c, c .number .ensures, bounds (c .before .before .args .n)))
-    (λ c κs. tt)
-    write-vector-requires
+    (tie.spec (λ c κs. tt) (λ c. omega (arith, small c))
+    (λ c. omega (arith, small c, c .number .ensures, bounds (c .before .before .args .n))) (λ c κs. tt) write-vector-requires
     (λ c. omega (arith, inside (c .before .before .before .before .before), c .before .before .before .before .before .before .before .before .before .fits))
-    write-matrix-requires
-    (λ c. search needs)
-    returns
-    returns-2)
+    write-matrix-requires (λ c. search needs) returns returns-2)

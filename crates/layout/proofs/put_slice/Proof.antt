@@ -32,13 +32,6 @@ returns-2 c = let a = c .before .before .before .before .args in missed (a .k) (
 pub put-slice-spec : {M : Type 1} → statement M
 put-slice-spec =
     tie.close
-    (tie.spec
-    Inv-loop μ-loop
-    (λ c κs. tt)
-    loop-holds
+    (tie.spec Inv-loop μ-loop (λ c κs. tt) loop-holds
     (λ c. omega arith) (λ c. omega arith) (λ c. omega arith) (λ c. omega arith) (λ c. omega arith) (λ c. omega arith)
-    (λ c. omega arith)
-    loop-again
-    (λ c. omega arith)
-    returns
-    returns-2)
+    (λ c. omega arith) loop-again (λ c. omega arith) returns returns-2)

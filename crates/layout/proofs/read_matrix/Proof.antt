@@ -44,11 +44,6 @@ returns c =
 pub read-matrix-spec : {M : Type 1} → statement M
 read-matrix-spec =
     tie.close
-    (tie.spec
-    Inv-loop μ-loop
-    (λ c κs. tt) (λ c κs. tt)
-    loop-holds
+    (tie.spec Inv-loop μ-loop (λ c κs. tt) (λ c κs. tt) loop-holds
     (λ c. omega (arith, row-within c)) (λ c. omega (arith, row-within c)) read-vector-requires
-    (λ c. omega arith) (λ c. omega arith) (λ c. omega arith) (λ c. omega arith)
-    loop-again
-    returns)
+    (λ c. omega arith) (λ c. omega arith) (λ c. omega arith) (λ c. omega arith) loop-again returns)

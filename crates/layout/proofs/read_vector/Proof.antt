@@ -42,8 +42,7 @@ returns-4 c =
 pub read-vector-spec : {M : Type 1} → statement M
 read-vector-spec =
     tie.close
-    (tie.spec
-    (λ c κs. tt)
+    (tie.spec (λ c κs. tt)
     (λ c. omega (arith, bounds (c .before .before .before .args .n))) (λ c. omega (arith, bounds (c .before .before .before .before .args .n))) returns
     (λ c. omega arith) (λ c. omega arith) (λ c. omega arith) (λ c. omega arith) (λ c. omega arith) returns-2
     (λ c. omega arith) (λ c. omega arith) (λ c. omega arith) (λ c. omega arith) (λ c. omega arith) (λ c. omega arith) (λ c. omega arith) (λ c. omega arith) returns-3

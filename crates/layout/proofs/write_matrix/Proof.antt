@@ -48,15 +48,7 @@ returns c =
 pub write-matrix-spec : {M : Type 1} → statement M
 write-matrix-spec =
     tie.close
-    (tie.spec
-    Inv-loop μ-loop
-    (λ c κs. tt) (λ c κs. tt)
-    loop-holds
+    (tie.spec Inv-loop μ-loop (λ c κs. tt) (λ c κs. tt) loop-holds
     (λ c. omega (arith, putting-room (c .before .before .loop .inv .1) (omega arith)))
-    (λ c. omega (arith, putting-room (c .before .before .loop .inv .1) (omega arith)))
-    (λ c. omega arith) (λ c. omega arith)
-    write-vector-requires
-    (λ c. omega arith) (λ c. omega arith)
-    loop-again
-    (λ c. omega arith)
-    returns)
+    (λ c. omega (arith, putting-room (c .before .before .loop .inv .1) (omega arith))) (λ c. omega arith) (λ c. omega arith)
+    write-vector-requires (λ c. omega arith) (λ c. omega arith) loop-again (λ c. omega arith) returns)

@@ -37,8 +37,7 @@ returns-4 c =
 pub write-vector-spec : {M : Type 1} → statement M
 write-vector-spec =
     tie.close
-    (tie.spec
-    (λ c κs. tt)
+    (tie.spec (λ c κs. tt)
     (λ c. omega arith) (λ c. omega (arith, bounds (c .before .before .args .n))) (λ c. omega (arith, bounds (c .before .before .args .n))) (λ c. simp length-set) returns
     (λ c. omega arith) (λ c. omega arith) (λ c. omega arith) (λ c. simp length-set (omega arith)) (λ c. simp length-set) returns-2
     (λ c. omega arith) (λ c. omega arith) (λ c. omega arith) (λ c. simp length-set (omega arith)) (λ c. simp length-set) returns-3

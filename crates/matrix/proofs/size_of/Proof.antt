@@ -9,8 +9,7 @@ use Rattle.matrix.proofs.size_of.Tie as tie
 pub size-of-spec : {M : Type 1} → statement M
 size-of-spec =
     tie.close
-    (tie.spec
-    (λ c. one-of _ (c .if1 .taken))
+    (tie.spec (λ c. one-of _ (c .if1 .taken))
     (λ c. sizeOf-count Two ∙ ap sizeOf (exactly 2 refl (c .before .if1 .left) (c .if2 .taken)))
     (λ c. sizeOf-count Three ∙ ap sizeOf (exactly 3 refl (c .before .if2 .left) (c .if3 .taken)))
     (λ c. four-of _ (c .if3 .left)))

@@ -49,9 +49,6 @@ returns-6 c = finish (c .before .before .before .before .before .args .s) (c .be
 pub rest-of-spec : {M : Type 1} → statement M
 rest-of-spec =
     tie.close
-    (tie.spec
-    mul-hh mul-hl mul-ll
-    (λ c. search needs) (λ c. search needs) (λ c. search needs)
-    mul-if3
+    (tie.spec mul-hh mul-hl mul-ll (λ c. search needs) (λ c. search needs) (λ c. search needs) mul-if3
     (λ c. search needs) (λ c. search needs) (λ c. search needs) (λ c. search needs) (λ c. search needs) (λ c. search needs)
     returns-6)

@@ -24,11 +24,6 @@ returns c = let s = c .before .before in c .pack .ensures ∙ code-root (s .args
 pub rounded-spec : {M : Type 1} → statement M
 rounded-spec =
     tie.close
-    (tie.spec
-    (λ c. search needs)
-    (λ c. omega (arith, code-lt (c .args .m) (c .args .e) (c .pre .0) (c .pre .1)))
-    (λ c. search needs) (λ c. search needs) (λ c. search needs)
-    whole-root-requires
-    (λ c. let b = bounds c in omega arith)
-    pack-requires
-    returns)
+    (tie.spec (λ c. search needs) (λ c. omega (arith, code-lt (c .args .m) (c .args .e) (c .pre .0) (c .pre .1)))
+    (λ c. search needs) (λ c. search needs) (λ c. search needs) whole-root-requires (λ c. let b = bounds c in omega arith)
+    pack-requires returns)

@@ -33,11 +33,5 @@ returns c =
 pub subnormal-spec : {M : Type 1} → statement M
 subnormal-spec =
     tie.close
-    (tie.spec
-    (λ c. let s = at c in omega arith)
-    (λ c. let s = at c in omega arith)
-    (λ c. let s = at c in omega arith)
-    (λ c. let s = at c in omega arith)
-    (λ c. let s = at c in omega arith)
-    rounded-requires
-    returns)
+    (tie.spec (λ c. let s = at c in omega arith) (λ c. let s = at c in omega arith) (λ c. let s = at c in omega arith)
+    (λ c. let s = at c in omega arith) (λ c. let s = at c in omega arith) rounded-requires returns)

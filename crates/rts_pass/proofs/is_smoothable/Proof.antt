@@ -28,10 +28,6 @@ returns-2 c =
 pub is-smoothable-spec : {M : Type 1} → statement M
 is-smoothable-spec =
     tie.close
-    (tie.spec
-    (λ c κs. tt)
-    (λ c. omega (arith, square-small (sizes c .bounds .most)))
+    (tie.spec (λ c κs. tt) (λ c. omega (arith, square-small (sizes c .bounds .most)))
     (λ c. omega (arith, square-small (sizes c .bounds .most), sizes c .bounds))
-    (λ c. omega (arith, output-small (sizes c .bounds .most) (sizes c .few)))
-    returns
-    returns-2)
+    (λ c. omega (arith, output-small (sizes c .bounds .most) (sizes c .few))) returns returns-2)

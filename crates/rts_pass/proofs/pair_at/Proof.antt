@@ -22,5 +22,4 @@ pair-at-spec =
     tie.close
     (tie.spec
     (λ c. omega arith) (λ c κs. omega arith) (λ c. omega arith) (λ c. omega arith) (λ c. omega arith) (λ c. omega arith)
-    (λ c. omega arith)
-    returns)
+    (λ c. omega arith) returns)

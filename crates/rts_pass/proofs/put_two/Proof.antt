@@ -25,16 +25,7 @@ returns c =
 pub put-two-spec : {M : Type 1} → statement M
 put-two-spec =
     tie.close
-    (tie.spec
-    (λ c. omega arith) (λ c. omega arith) (λ c. omega arith) (λ c. omega arith)
-    (λ c. simp length-set (omega arith))
-    (λ c. omega arith) (λ c. omega arith)
-    (λ c. simp length-set (omega arith))
-    (λ c. omega arith) (λ c. omega arith)
-    (λ c. simp length-set (omega arith))
-    (λ c. omega arith) (λ c. omega arith)
-    (λ c. simp length-set (omega arith))
-    (λ c. omega arith) (λ c. omega arith)
-    (λ c. simp length-set (omega arith))
-    (λ c. simp length-set)
-    returns)
+    (tie.spec (λ c. omega arith) (λ c. omega arith) (λ c. omega arith) (λ c. omega arith) (λ c. simp length-set (omega arith))
+    (λ c. omega arith) (λ c. omega arith) (λ c. simp length-set (omega arith)) (λ c. omega arith) (λ c. omega arith)
+    (λ c. simp length-set (omega arith)) (λ c. omega arith) (λ c. omega arith) (λ c. simp length-set (omega arith))
+    (λ c. omega arith) (λ c. omega arith) (λ c. simp length-set (omega arith)) (λ c. simp length-set) returns)

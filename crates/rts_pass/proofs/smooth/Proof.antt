@@ -68,14 +68,7 @@ returns-4 c =
 pub smooth-spec : {M : Type 1} → statement M
 smooth-spec =
     tie.close
-    (tie.spec
-    (λ c κs. tt)
-    returns
-    (λ c κs. tt) (λ c. search needs)
-    smooth-slots-requires
-    (λ c. search needs)
+    (tie.spec (λ c κs. tt) returns (λ c κs. tt) (λ c. search needs) smooth-slots-requires (λ c. search needs)
     (λ c. shorter (c .before .before .before .before))
     (λ c. sym (length-take-le _ _ (shorter (c .before .before .before .before .before))))
-    (λ c κs. tt) (λ c. search needs) (λ c. search needs)
-    returns-2 returns-3
-    returns-4)
+    (λ c κs. tt) (λ c. search needs) (λ c. search needs) returns-2 returns-3 returns-4)

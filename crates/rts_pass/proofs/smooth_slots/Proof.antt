@@ -117,33 +117,19 @@ returns-3 c =
 pub smooth-slots-spec : {M : Type 1} → statement M
 smooth-slots-spec =
     tie.close
-    (tie.spec
-    Inv-loop μ-loop
-    (λ c κs. tt)
-    smooth-slots-two-requires
-    (λ c. c .before .before .smooth-slots-two .kept .1 .1 .1 .0)
-    returns
+    (tie.spec Inv-loop μ-loop (λ c κs. tt) smooth-slots-two-requires
+    (λ c. c .before .before .smooth-slots-two .kept .1 .1 .1 .0) returns
     (λ c. omega (arith, few (c .before .before .before .before .args .n) (c .before .before .before .before .args .n) (c .before .number .ensures) (c .before .number .ensures)))
     (λ c. omega (arith, last-room (c .before), pair-is (c .before)))
-    (λ c. omega (arith, last-room (c .before), pair-is (c .before)))
-    (λ c. omega arith)
-    (λ c. omega (arith, last-room (c .before)))
-    (λ c κs. tt)
-    (λ c. omega (arith, last-room (c .before .before)))
-    (λ c. omega (arith, last-room (c .before .before), pair-is (c .before .before)))
-    (λ c κs. tt)
-    loop-holds
-    (λ c. omega (arith, put-room (c .before .before)))
-    (λ c κs. tt)
+    (λ c. omega (arith, last-room (c .before), pair-is (c .before))) (λ c. omega arith)
+    (λ c. omega (arith, last-room (c .before))) (λ c κs. tt) (λ c. omega (arith, last-room (c .before .before)))
+    (λ c. omega (arith, last-room (c .before .before), pair-is (c .before .before))) (λ c κs. tt) loop-holds
+    (λ c. omega (arith, put-room (c .before .before))) (λ c κs. tt)
     (λ c. omega (arith, c .before .before .before .before .before .loop-test))
     (λ c. omega (arith, turn-room (c .before .before .before .before .before)))
-    (λ c κs. turn-room (c .before .before .before .before .before .before .before))
-    (λ c. search needs)
+    (λ c κs. turn-room (c .before .before .before .before .before .before .before)) (λ c. search needs)
     (λ c. omega (arith, c .before .before .before .before .before .before .before .before .before .before .loop-test))
-    loop-again
-    (λ c. search needs)
+    loop-again (λ c. search needs)
     (λ c. c .before .before .before .before .before .before .before .before .put-pair .kept .0 ∙ c .before .before .before .before .before .before .before .before .before .before .before .before .loop .inv .long)
-    returns-2
-    (λ c κs. tt)
-    (λ c. c .before .before .put-pair2 .kept .0 ∙ c .before .before .before .before .before .before .loop .inv .long)
-    returns-3)
+    returns-2 (λ c κs. tt)
+    (λ c. c .before .before .put-pair2 .kept .0 ∙ c .before .before .before .before .before .before .loop .inv .long) returns-3)

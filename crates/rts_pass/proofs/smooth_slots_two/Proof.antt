@@ -56,13 +56,10 @@ returns-2 c =
 pub smooth-slots-two-spec : {M : Type 1} → statement M
 smooth-slots-two-spec =
     tie.close
-    (tie.spec
-    Inv-loop μ-loop
+    (tie.spec Inv-loop μ-loop
     (λ c. search needs) (λ c. search needs) (λ c. search needs) (λ c. search needs) (λ c. search needs) (λ c. search needs)
-    (λ c. search needs) (λ c. search needs) (λ c. omega arith) (λ c. omega arith) (λ c κs. omega arith)
-    loop-holds
-    (λ c. omega (arith, c .before .before .loop .inv .below))
-    put-two-requires
+    (λ c. search needs) (λ c. search needs) (λ c. omega arith) (λ c. omega arith) (λ c κs. omega arith) loop-holds
+    (λ c. omega (arith, c .before .before .loop .inv .below)) put-two-requires
     (λ c. omega (arith, c .before .before .before .before .loop-test))
     (λ c. omega (arith, c .before .before .before .before .before .loop .inv .below))
     (λ c κs. omega (arith, c .before .before .before .before .before .loop .inv .below))
@@ -71,10 +68,7 @@ smooth-slots-two-spec =
     (λ c κs. omega (arith, c .before .before .before .before .before .before .loop .inv .below))
     (λ c κs. tt) (λ c. search needs)
     (λ c. omega (arith, c .before .before .before .before .before .before .before .before .before .before .loop-test))
-    loop-again
-    (λ c. search needs)
+    loop-again (λ c. search needs)
     (λ c. c .before .before .before .before .before .before .before .before .put-two .kept .0 ∙ c .before .before .before .before .before .before .before .before .before .before .before .loop .inv .long)
-    returns
-    (λ c κs. omega (arith, going-room _ _ _ _ (c .before .before .loop .inv)))
-    (λ c. c .before .before .put-two2 .kept .0 ∙ c .before .before .before .before .before .loop .inv .long)
-    returns-2)
+    returns (λ c κs. omega (arith, going-room _ _ _ _ (c .before .before .loop .inv)))
+    (λ c. c .before .before .put-two2 .kept .0 ∙ c .before .before .before .before .before .loop .inv .long) returns-2)

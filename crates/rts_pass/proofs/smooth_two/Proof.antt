@@ -22,8 +22,5 @@ returns-2 c =
 pub smooth-two-spec : {M : Type 1} → statement M
 smooth-two-spec =
     tie.close
-    (tie.spec
-    (λ c κs. tt) (λ c. search needs) (λ c. search needs) (λ c. search needs) (λ c. search needs) (λ c. search needs)
-    (λ c κs. tt) (λ c κs. tt) (λ c. search needs)
-    returns
-    returns-2)
+    (tie.spec (λ c κs. tt) (λ c. search needs) (λ c. search needs) (λ c. search needs) (λ c. search needs) (λ c. search needs)
+    (λ c κs. tt) (λ c κs. tt) (λ c. search needs) returns returns-2)

@@ -45,13 +45,7 @@ returns-2 c =
 pub step-spec : {M : Type 1} → statement M
 step-spec =
     tie.close
-    (tie.spec
-    (λ c κs. tt)
-    (λ c. omega (arith, inside c))
-    (λ c. omega (arith, inside c))
-    (λ c. omega (arith, inside c))
+    (tie.spec (λ c κs. tt) (λ c. omega (arith, inside c)) (λ c. omega (arith, inside c)) (λ c. omega (arith, inside c))
     (λ c. omega (arith, inside c))
     (λ c κs. tt) (λ c κs. tt) (λ c. search needs) (λ c κs. tt) (λ c. search needs) (λ c κs. tt) (λ c κs. tt) (λ c κs. tt)
-    (λ c κs. tt) (λ c κs. tt) (λ c κs. tt) (λ c κs. tt) (λ c κs. tt) (λ c. search needs)
-    returns
-    returns-2)
+    (λ c κs. tt) (λ c κs. tt) (λ c κs. tt) (λ c κs. tt) (λ c κs. tt) (λ c. search needs) returns returns-2)

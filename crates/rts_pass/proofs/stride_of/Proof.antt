@@ -20,11 +20,6 @@ returns-2 c = sym (cond-false (stride (c .before .before .args .n)) 0 (sym (c .b
 pub stride-of-spec : {M : Type 1} → statement M
 stride-of-spec =
     tie.close
-    (tie.spec
-    (λ c κs. tt)
-    (λ c. omega (arith, size c))
-    (λ c. omega (arith, square-small (size c .most)))
-    (λ c. omega (arith, square-small (size c .most)))
-    (λ c. omega (arith, square-small (size c .most), size c))
-    returns
+    (tie.spec (λ c κs. tt) (λ c. omega (arith, size c)) (λ c. omega (arith, square-small (size c .most)))
+    (λ c. omega (arith, square-small (size c .most))) (λ c. omega (arith, square-small (size c .most), size c)) returns
     returns-2)

@@ -26,7 +26,5 @@ returns c =
 pub put-slot-spec : {M : Type 1} → statement M
 put-slot-spec =
     tie.close
-    (tie.spec
-    (λ c κs. tt) (λ c κs. tt) (λ c κs. tt) (λ c κs. tt) (λ c. search needs) (λ c. search needs) (λ c. search needs)
-    (λ c κs. tt) (λ c. search needs)
-    returns)
+    (tie.spec (λ c κs. tt) (λ c κs. tt) (λ c κs. tt) (λ c κs. tt) (λ c. search needs) (λ c. search needs) (λ c. search needs)
+    (λ c κs. tt) (λ c. search needs) returns)

@@ -44,11 +44,6 @@ returns c = let v = c .before .loop .inv in rows-all (v .1) (omega (arith, v .0 
 pub propagated-spec : {M : Type 1} → statement M
 propagated-spec =
     tie.close
-    (tie.spec
-    Inv-loop μ-loop
-    (λ c κs. tt)
-    loop-holds
+    (tie.spec Inv-loop μ-loop (λ c κs. tt) loop-holds
     (λ c. omega arith) (λ c. omega arith) (λ c κs. tt) (λ c κs. tt) (λ c. omega arith) (λ c. omega arith) (λ c κs. tt)
-    (λ c κs. tt) (λ c. omega arith) (λ c. omega arith) (λ c. omega arith) (λ c. omega arith)
-    loop-again
-    returns)
+    (λ c κs. tt) (λ c. omega arith) (λ c. omega arith) (λ c. omega arith) (λ c. omega arith) loop-again returns)

@@ -11,9 +11,5 @@ returns c =
 pub outer-rows-spec : {M : Type 1} → statement M
 outer-rows-spec =
     tie.close
-    (tie.spec
-    (λ c. omega arith) (λ c κs. tt)
-    (λ c. omega arith) (λ c κs. tt)
-    (λ c. omega arith) (λ c κs. tt)
-    (λ c. omega arith) (λ c κs. tt)
-    returns)
+    (tie.spec (λ c. omega arith) (λ c κs. tt) (λ c. omega arith) (λ c κs. tt) (λ c. omega arith) (λ c κs. tt)
+    (λ c. omega arith) (λ c κs. tt) returns)

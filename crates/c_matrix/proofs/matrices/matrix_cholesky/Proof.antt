@@ -1,10 +1,14 @@
 -- `matrix_cholesky` meets its contract.
+use mathlib.Core.Path.{sym, ap, _∙_}
+use Prim.Native.Nat.{ℕ, _*_}
 use native.Mathlib.Omega.{arith}
-use Rattle.scalar.specs.Number.{_⊖_, +0}
-use Rattle.algebra.specs.Matrix.{at}
-use Rattle.algebra.specs.Cholesky.{diagonalOf, cholesky}
-use Rattle.algebra.proofs.Factors.{shape-cholesky, number-cholesky}
-use Rattle.c_matrix.proofs.Ways.{Two, two-of, rows-at, matrix-in, answer-handed, one-long, number-answered, if-refuses, none}
+use Rattle.algebra.specs.Cholesky.{cholesky}
+use Rattle.algebra.proofs.Factors.{shape-cholesky}
+use Rattle.matrix.specs.Size.{count}
+use Rattle.matrix.proofs.Sizes.{bounds, bounds-of}
+use Rattle.c_matrix.specs.Slices.{rows}
+use Rattle.c_matrix.proofs.Products.{rows-in}
+use Rattle.c_matrix.proofs.Ways.{Two, two-of, rows-at, answer-handed, if-refuses, none}
 use Rattle.c_matrix.proofs.matrices.matrix_cholesky.Statement.{statement}
 use Rattle.c_matrix.proofs.matrices.matrix_cholesky.Tie as tie
 
@@ -14,30 +18,26 @@ whole t =
     let a = t .before .before .before .before .args in
     two-of (a .n) (a .n) (a .a .now) (a .n) (a .n) (a .out .now) (t .before .are-two-matrices .ensures) (t .if1 .taken)
 
-give-number-requires : tie.Need-give-number-requires
-give-number-requires c κs = let u = c .before .before .before in one-long (whole (u .before) .last) (u .if2 .taken)
-
 returns : tie.Need-returns
 returns c =
-    let d = c .before .before .before in
-    let u = d .before .before .before in
-    let a = u .before .before .before .before .before .args in
-    number-answered cholesky (a .a .now) (a .out .now) (diagonalOf (at (a .a .now) 0 ⊖ +0)) (whole (u .before) .passed) (u .if2 .taken)
-    (number-cholesky _) (d .diagonal-root .ensures) (c .before .before .give-number .ensures)
-
-returns-2 : tie.Need-returns-2
-returns-2 c =
-    let x = c .before .before .before .before .before .before in
-    let t = x .before .before .before in
+    let r3 = c .before .before .before .before .before .before in
+    let r1 = r3 .before .before in
+    let r0 = r1 .before in
+    let s = r0 .before in
+    let t = s .before in
     let w = whole t in
-    let N = rows-at (w .first) (x .before .size-of .ensures) in
-    answer-handed (w .passed) (w .last) (λ i. cholesky (N i) (matrix-in (w .first) N N (x .matrix-at .ensures) i))
+    let a = t .before .before .before .before .args in
+    let N = rows-at (w .first) (s .size-of .ensures) in
+    let n = count (s .size-of .result) in
+    let read = rows-in n n (a .n) (a .a .now) (bounds (s .size-of .result) .most) (sym N) (w .first .long ∙ sym (ap (λ (k : ℕ). k * k) N))
+    (r0 .vector-at .ensures) (r1 .vector-at2 .ensures) (r3 .before .vector-at3 .ensures) (r3 .vector-at4 .ensures) in
+    answer-handed (w .passed) (w .last) (ap (cholesky n) read ∙ λ i. cholesky (N i) (rows (N i) (N i) (a .a .now)))
     (λ B. shape-cholesky _ _ B) (c .before .before .before .factor-of .ensures) (c .before .before .give-matrix .ensures)
 
 pub matrix-cholesky-spec : {M : Type 1} → statement M
 matrix-cholesky-spec =
     tie.close
-    (tie.spec
-    none (λ c. let u = c .before .before in omega (arith, one-long (whole (u .before) .first) (u .if2 .taken))) none give-number-requires (λ c. search) returns
-    none none none none (λ c. search) returns-2
-    (λ c. if-refuses _ _ (c .before .are-two-matrices .ensures) (c .if1 .left)))
+    (tie.spec none none none none
+    (λ c. let t = c .before .before .before in omega (arith, bounds-of _ (whole t .first .rows))) none
+    (λ c. let t = c .before .before .before .before in omega (arith, bounds-of _ (whole t .first .rows))) none
+    none none (λ c. search) returns (λ c. if-refuses _ _ (c .before .are-two-matrices .ensures) (c .if1 .left)))

@@ -40,5 +40,4 @@ matrix-inv-spec =
     tie.close
     (tie.spec
     none (λ c. let u = c .before .before in omega (arith, one-long (whole (u .before) .first) (u .if2 .taken))) none give-number-requires (λ c. search) returns
-    none none none none (λ c. search) returns-2
-    (λ c. if-refuses _ _ (c .before .are-two-matrices .ensures) (c .if1 .left)))
+    none none none none (λ c. search) returns-2 (λ c. if-refuses _ _ (c .before .are-two-matrices .ensures) (c .if1 .left)))

@@ -80,20 +80,14 @@ returns c =
 pub put-product-spec : {M : Type 1} → statement M
 put-product-spec =
     tie.close
-    (tie.spec
-    Inv-loop μ-loop
-    none none none none none
+    (tie.spec Inv-loop μ-loop none none none none none
     (λ c. let w = c .before .before in omega (arith, w .number3 .ensures, bounds (w .before .before .before .before .before .before .args .c))) none
     (λ c. let w = c .before .before .before in omega (arith, w .number3 .ensures, bounds (w .before .before .before .before .before .before .args .c))) none
     loop-holds
     (λ c. let k = c .before .before .before .before .before .before .before in let a = k .before .before .before .before .before .args in
-    omega (arith, row-place (a .r) (a .k) (c .loop-test .taken) (k .before .number .ensures) (k .number2 .ensures)))
-    none none
+    omega (arith, row-place (a .r) (a .k) (c .loop-test .taken) (k .before .number .ensures) (k .number2 .ensures))) none none
     (λ c. let w = c .before .before .before .before .before .before .before .before .before in let h = w .before .before in let a = h .before .before .before .before .args in
     omega (arith, row-place (a .r) (a .c) (c .before .before .before .loop-test .taken) (h .number .ensures) (w .number3 .ensures)))
     none
     (λ c. omega (arith, bounds (c .before .before .before .before .before .before .before .before .before .before .before .before .before .before .before .before .before .before .args .r)))
-    (λ c. omega arith)
-    loop-again
-    (λ c. omega arith)
-    returns)
+    (λ c. omega arith) loop-again (λ c. omega arith) returns)

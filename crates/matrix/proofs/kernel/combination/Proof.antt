@@ -58,9 +58,6 @@ returns-4 c =
 pub combination-spec : {M : Type 1} → statement M
 combination-spec =
     tie.close
-    (tie.spec
-    (λ c κs. search needs)
-    (λ c. search needs) (λ c κs. search needs) returns
-    (λ c. search needs) (λ c κs. search needs) returns-2
-    (λ c. search needs) (λ c κs. search needs) returns-3
+    (tie.spec (λ c κs. search needs) (λ c. search needs) (λ c κs. search needs) returns
+    (λ c. search needs) (λ c κs. search needs) returns-2 (λ c. search needs) (λ c κs. search needs) returns-3
     (λ c. search needs) (λ c κs. search needs) returns-4)

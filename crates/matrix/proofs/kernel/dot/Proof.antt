@@ -32,8 +32,6 @@ returns-2 c = sym (cond-false _ _ (lt-leb _ 4 (c .if1 .left)))
 pub dot-spec : {M : Type 1} → statement M
 dot-spec =
     tie.close
-    (tie.spec
-    Inv-loop μ-loop loop-holds
+    (tie.spec Inv-loop μ-loop loop-holds
     (λ c. omega arith) (λ c. omega arith) (λ c. omega arith) (λ c. omega arith) (λ c. omega arith) (λ c. omega arith)
-    loop-again returns
-    returns-2)
+    loop-again returns returns-2)

@@ -37,9 +37,6 @@ returns-4 c =
 pub leading-spec : {M : Type 1} → statement M
 leading-spec =
     tie.close
-    (tie.spec
-    (λ c κs. tt)
-    (λ c. omega arith) returns
-    (λ c. omega arith) (λ c. omega arith) returns-2
+    (tie.spec (λ c κs. tt) (λ c. omega arith) returns (λ c. omega arith) (λ c. omega arith) returns-2
     (λ c. omega arith) (λ c. omega arith) (λ c. omega arith) returns-3
     (λ c. omega arith) (λ c. omega arith) (λ c. omega arith) (λ c. omega arith) returns-4)

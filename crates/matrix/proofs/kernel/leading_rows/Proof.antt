@@ -64,9 +64,5 @@ returns-4 c =
 pub leading-rows-spec : {M : Type 1} → statement M
 leading-rows-spec =
     tie.close
-    (tie.spec
-    (λ c κs. search needs)
-    (λ c κs. search needs) returns
-    (λ c κs. search needs) returns-2
-    (λ c κs. search needs) returns-3
-    (λ c κs. search needs) returns-4)
+    (tie.spec (λ c κs. search needs) (λ c κs. search needs) returns (λ c κs. search needs) returns-2
+    (λ c κs. search needs) returns-3 (λ c κs. search needs) returns-4)

@@ -77,9 +77,7 @@ returns-4 c =
 pub product-spec : {M : Type 1} → statement M
 product-spec =
     tie.close
-    (tie.spec
-    (λ c κs. search needs)
-    (λ c. search needs) (λ c κs. search needs) (λ c κs. search needs) returns
+    (tie.spec (λ c κs. search needs) (λ c. search needs) (λ c κs. search needs) (λ c κs. search needs) returns
     (λ c. search needs) (λ c κs. search needs) (λ c κs. search needs) returns-2
     (λ c. search needs) (λ c κs. search needs) (λ c κs. search needs) returns-3
     (λ c. search needs) (λ c κs. search needs) (λ c κs. search needs) returns-4)

@@ -12,6 +12,4 @@ returns c = refl
 pub row-scaled-spec : {M : Type 1} → statement M
 row-scaled-spec =
     tie.close
-    (tie.spec
-    (λ c. omega arith) (λ c. omega arith) (λ c. omega arith) (λ c. omega arith)
-    returns)
+    (tie.spec (λ c. omega arith) (λ c. omega arith) (λ c. omega arith) (λ c. omega arith) returns)

@@ -12,7 +12,5 @@ returns c = refl
 pub row-sum-spec : {M : Type 1} → statement M
 row-sum-spec =
     tie.close
-    (tie.spec
-    (λ c. omega arith) (λ c. omega arith) (λ c. omega arith) (λ c. omega arith)
-    (λ c. omega arith) (λ c. omega arith) (λ c. omega arith) (λ c. omega arith)
-    returns)
+    (tie.spec (λ c. omega arith) (λ c. omega arith) (λ c. omega arith) (λ c. omega arith)
+    (λ c. omega arith) (λ c. omega arith) (λ c. omega arith) (λ c. omega arith) returns)

@@ -28,9 +28,6 @@ returns c = filling-all (c .before .loop .inv) (omega arith)
 pub to-flat-spec : {M : Type 1} → statement M
 to-flat-spec =
     tie.close
-    (tie.spec
-    Inv-loop μ-loop loop-holds
+    (tie.spec Inv-loop μ-loop loop-holds
     (λ c. omega arith) (λ c. omega arith) (λ c. omega arith) (λ c. omega arith) (λ c. omega arith) (λ c. omega arith)
-    (λ c. omega arith) (λ c. omega arith)
-    loop-again
-    returns)
+    (λ c. omega arith) (λ c. omega arith) loop-again returns)

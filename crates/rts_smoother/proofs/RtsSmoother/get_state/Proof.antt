@@ -31,13 +31,6 @@ returns-2 c = simp (ne-eqb _ _ (λ e. c .before .if1 .left (c .before .before .g
 pub get-state-spec : {M : Type 1} → statement M
 get-state-spec =
     tie.close
-    (tie.spec
-    (λ c κs. tt) (λ c κs. tt)
-    (λ c. omega (arith, inside c))
-    (λ c. omega (arith, inside c))
-    (λ c. omega (arith, inside c))
-    (λ c. search needs) (λ c. search needs)
-    (λ c. inside c .ends)
-    (λ c. search needs)
-    returns
+    (tie.spec (λ c κs. tt) (λ c κs. tt) (λ c. omega (arith, inside c)) (λ c. omega (arith, inside c))
+    (λ c. omega (arith, inside c)) (λ c. search needs) (λ c. search needs) (λ c. inside c .ends) (λ c. search needs) returns
     returns-2)

@@ -46,10 +46,5 @@ returns-3 c =
 pub store-forward-spec : {M : Type 1} → statement M
 store-forward-spec =
     tie.close
-    (tie.spec
-    (λ c κs. tt) (λ c κs. tt)
-    (λ c. omega (arith, inside c))
-    (λ c κs. (inside c .size, inside c .ends))
-    (λ c. search needs) (λ c. search needs)
-    returns returns-2
-    returns-3)
+    (tie.spec (λ c κs. tt) (λ c κs. tt) (λ c. omega (arith, inside c)) (λ c κs. (inside c .size, inside c .ends))
+    (λ c. search needs) (λ c. search needs) returns returns-2 returns-3)
