@@ -1,0 +1,91 @@
+// The operations by their places in the list of names that the report goes by (crates/replay/src/main.rt).
+
+pub const CONSTS: usize = 0;
+
+pub const SQRT: usize = 1;
+
+pub const ABS: usize = 2;
+
+pub const CLAMP_VAL: usize = 3;
+
+pub const SATURATE: usize = 4;
+
+pub const FROM_F64: usize = 5;
+
+pub const TO_F64: usize = 6;
+
+pub const FROM_INT: usize = 7;
+
+pub const PID_ABS: usize = 8;
+
+pub const CLAMP_PID: usize = 9;
+
+pub const ZEROS: usize = 10;
+
+pub const DEFAULT: usize = 11;
+
+pub const FILLED: usize = 12;
+
+pub const IDENTITY: usize = 13;
+
+pub const TRANSPOSE: usize = 14;
+
+pub const ADD_MAT: usize = 15;
+
+pub const SUB_MAT: usize = 16;
+
+pub const EQ: usize = 17;
+
+pub const SCALE: usize = 18;
+
+pub const NEG: usize = 19;
+
+pub const FROB_NORM: usize = 20;
+
+pub const TRACE: usize = 21;
+
+pub const GET: usize = 22;
+
+pub const SET: usize = 23;
+
+pub const MATMUL: usize = 24;
+
+pub const MATVEC: usize = 25;
+
+pub const OUTER: usize = 26;
+
+pub const VEC_ADD: usize = 27;
+
+pub const VEC_SUB: usize = 28;
+
+pub const VEC_DOT: usize = 29;
+
+pub const VEC_SCALE: usize = 30;
+
+pub const VEC_NORM: usize = 31;
+
+pub const INV: usize = 32;
+
+pub const CHOLESKY: usize = 33;
+
+pub const KF_NEW: usize = 34;
+
+pub const KF_PREDICT: usize = 35;
+
+pub const KF_UPDATE: usize = 36;
+
+pub const KF_RESET: usize = 37;
+
+pub const KF_POSVEL: usize = 38;
+
+pub const KF_SEQ: usize = 39;
+
+pub const RTS_STORE: usize = 40;
+
+pub const RTS_GET: usize = 41;
+
+pub const RTS_SMOOTH: usize = 42;
+
+pub const RTS_STALE: usize = 43;
+// Any other name.
+pub const OTHERS: usize = 44;
