@@ -7,15 +7,22 @@ use protocol::given;
 use protocol::names;
 use protocol::words;
 
+mod scalars;
 mod tally;
 
 // The place in the answer that the operation reaches from its first word, which stands at 0.
 fn place_of(op: usize, v: &[f64], given: &[u8]) -> usize {
+    if op <= names::CLAMP_PID {
+        return scalars::place_of(op, v, given, 0);
+    }
     if op <= names::CHOLESKY {
-        return replay_core::place_of(op, v, given, 0);
+        return replay_matrices::place_of(op, v, given, 0);
+    }
+    if op <= names::KF_SEQ {
+        return replay_filters::place_of(op, v, given, 0);
     }
     if op < names::OTHERS {
-        replay_estimators::place_of(op, v, given, 0)
+        replay_smoothers::place_of(op, v, given, 0)
     } else {
         given::LOST
     }

@@ -1,5 +1,6 @@
-// The operations of src/core/matrix.rs. The words of a call are its sizes, the cells of a and of b, and a number, as far as it
-// takes them. Its sizes r and c are the rows and columns of a, where a vector has one column; i and j are the next two.
+// The operations of src/core/matrix.rs replayed through their C functions. The words of a call are its sizes, the cells of a and of b,
+// and a number, as far as it takes them. Its sizes r and c are the rows and columns of a, where a vector has one column; i and j are
+// the next two. The answer is sought in the answer given from the place `at` on, and the place behind it handed back.
 ghost use Prim.Native.Nat.{_≤_};
 use estimators::matrices;
 use protocol::given;
@@ -170,7 +171,7 @@ fn answer(kind: u8, k: Call, a: &[f64], b: &[f64], length: usize, given: &[u8], 
     }
 }
 
-pub(crate) fn place_of(op: usize, v: &[f64], given: &[u8], at: usize) -> usize
+pub fn place_of(op: usize, v: &[f64], given: &[u8], at: usize) -> usize
     ensures { λ r. ⌜ at ≤ r ⌝ }
 {
     let r = size_at(v, 0);

@@ -1,4 +1,5 @@
-// The operations of src/estimator/rts_smoother.rs. A slot is two pairs of a state and a covariance: filtered and predicted.
+// The operations of src/estimator/rts_smoother.rs replayed through their C functions. A slot is two pairs of a state and a covariance:
+// filtered and predicted. The answer is sought in the answer given from the place `at` on, and the place behind it handed back.
 ghost use Prim.Native.Nat.{_≤_};
 use estimators::smoothers;
 use protocol::given;
@@ -181,7 +182,7 @@ fn on_slots(
     }
 }
 
-pub(crate) fn place_of(op: usize, v: &[f64], given: &[u8], at: usize) -> usize
+pub fn place_of(op: usize, v: &[f64], given: &[u8], at: usize) -> usize
     ensures { λ r. ⌜ at ≤ r ⌝ }
 {
     let mut slots = [0.0; 2560];

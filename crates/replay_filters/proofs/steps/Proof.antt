@@ -3,8 +3,8 @@ use Prim.Native.Nat.{_+_, _-_, _≤_}
 use borrow.Author.Needs.{needs}
 use lib.ListN.{length}
 use mathlib.Core.Path.{_≡_}
-use Rattle.replay_estimators.proofs.filters.steps.Statement.{statement}
-use Rattle.replay_estimators.proofs.filters.steps.Tie as tie
+use Rattle.replay_filters.proofs.steps.Statement.{statement}
+use Rattle.replay_filters.proofs.steps.Tie as tie
 
 abbrev Inv-loop : tie.InvT-loop
 Inv-loop first s filter₀ v from given at letter₀ next₀ then₀ place₀ filter letter next then place =

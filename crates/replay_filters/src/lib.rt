@@ -1,4 +1,5 @@
-// The operations of src/estimator/kalman.rs. The words of a filter, a b h q r x p, lie as its slice does; steps follow them.
+// The operations of src/estimator/kalman.rs replayed through their C functions. The words of a filter, a b h q r x p, lie as its
+// slice does; steps follow them. The answer is sought in the answer given from the place `at` on, and the place behind it handed back.
 ghost use Prim.Native.Nat.{_≤_};
 use estimators::filters;
 use protocol::given;
@@ -218,7 +219,7 @@ fn position_velocity(v: &[f64], given: &[u8], at: usize) -> usize
     left(Sizes { n: 2, m: 1, i: 1 }, &filter, given, place)
 }
 
-pub(crate) fn place_of(op: usize, v: &[f64], given: &[u8], at: usize) -> usize
+pub fn place_of(op: usize, v: &[f64], given: &[u8], at: usize) -> usize
     ensures { λ r. ⌜ at ≤ r ⌝ }
 {
     if op != names::KF_POSVEL {

@@ -1,4 +1,4 @@
-// The operations of src/core/scalar.rs.
+// The operations of src/core/scalar.rs, as replay_matrices has those of matrices.
 ghost use Prim.Native.Nat.{_≤_};
 use estimators::numbers;
 use protocol::given;
@@ -52,7 +52,7 @@ fn count_of(op: usize) -> usize {
     }
 }
 
-pub(crate) fn place_of(op: usize, v: &[f64], given: &[u8], at: usize) -> usize
+pub fn place_of(op: usize, v: &[f64], given: &[u8], at: usize) -> usize
     ensures { λ r. ⌜ at ≤ r ⌝ }
 {
     if v.len() != count_of(op) {

@@ -3,8 +3,8 @@ use Prim.Native.Nat.{_-_, _≤_}
 use borrow.Author.Needs.{needs}
 use lib.ListN.{length}
 use mathlib.Core.Path.{_≡_}
-use Rattle.replay_estimators.proofs.smoothers.store.Statement.{statement}
-use Rattle.replay_estimators.proofs.smoothers.store.Tie as tie
+use Rattle.replay_smoothers.proofs.store.Statement.{statement}
+use Rattle.replay_smoothers.proofs.store.Tie as tie
 
 abbrev Inv-loop : tie.InvT-loop
 Inv-loop s offered v from slots₀ given at pair count₀ next₀ place₀ k₀ slots count next place k =
