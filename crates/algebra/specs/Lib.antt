@@ -4,3 +4,4 @@ pub mod Inverse
 pub mod Cholesky
 pub mod Values
 pub mod Cases
+pub mod Promise

@@ -7,6 +7,8 @@ ghost use Prim.Native.Nat.{_≤_};
 ghost use lib.ListN.{length};
 ghost use Rattle.answer.specs.Told.{given};
 ghost use Rattle.rts_pass.specs.Buffer.{buffered};
+ghost use Rattle.smoothing.specs.Demand3.{Demand3};
+ghost use Rattle.c_smoothers.specs.Call.{duty, run};
 ghost use Rattle.c_smoothers.specs.Smoother.{isPairs, isSquare, storeIn, slotIn, smoothIn};
 use matrix::both;
 use matrix::size_of;
@@ -120,3 +122,8 @@ pub fn rts_smoother_smooth(
         1
     }
 }
+
+// A promise: nothing is done, and the crate is not proved without demand 3 of `rts_smoother_smooth`, which the name for C forwards to.
+pub fn demand3_of_slices()
+    ensures { λ r. ⌜ Demand3 duty run ⌝ }
+{}

@@ -13,6 +13,7 @@ ghost use Rattle.matrix.specs.Size.{count, sizeOf, sized, shaped, alike,
 pub mod kernel;
 
 use answer::Status;
+use scalar::ControlScalar;
 
 // A matrix beside its case; beside a refusal the rows are all +0.
 pub struct MatrixResult {
@@ -115,11 +116,11 @@ pub fn both(x: bool, y: bool) -> bool
     if x { y } else { false }
 }
 
-// A size is 1 to 4.
+// A size is 1 to 4; the limits of states, measurements, inputs and models are one number.
 pub fn is_size(n: usize) -> bool
     ensures { λ r. ⌜ r ≡ sized n ⌝ }
 {
-    both(1 <= n, n <= 4)
+    both(1 <= n, n <= ControlScalar::MAX_STATES)
 }
 
 pub fn is_shape(r: usize, c: usize) -> bool

@@ -6,6 +6,7 @@ ghost use Prim.Native.Nat.{_+_, _*_, _^_, _≤_, _<_};
 ghost use lib.Ieee.{binary64, ofBits, odd};
 ghost use Rattle.root.specs.Weights.{hidden, past53, past54, infinity, bitsOfFour};
 ghost use Rattle.root.specs.Root.{root, rootOf, isqrt};
+ghost use Rattle.root.specs.Nearest.{CorrectlyRounded};
 ghost use Rattle.root.specs.Part.{Ready, Step};
 ghost use Rattle.root.specs.Rest.{Leaves};
 
@@ -212,3 +213,10 @@ pub fn sqrt(x: f64) -> f64
     }
     normal(b)
 }
+
+// ---- a promise: nothing is done, and the crate is not proved without the law
+
+// The root is the correctly rounded one, for every f64.
+pub fn correctly_rounded()
+    ensures { λ r. ⌜ CorrectlyRounded root ⌝ }
+{}

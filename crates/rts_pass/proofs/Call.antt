@@ -10,6 +10,7 @@ use lib.Ieee.{Float}
 use Rattle.scalar.specs.Number.{+0}
 use Rattle.answer.specs.Answer.{Answer, refused, answered, mapped, if-sized}
 use Rattle.answer.proofs.Tables.{table-ext}
+use Rattle.algebra.specs.Matrix.{Matrix}
 use Rattle.algebra.specs.Array.{used}
 use Rattle.filtering.specs.Filter.{Estimate}
 use Rattle.layout.specs.Layout.{joined, placed, pairLength}
@@ -34,6 +35,13 @@ written-back n T r h f =
     (λ k g. let e : k * w ≡ 0 + k * w = omega arith in λ i. pairAt n (sym (in-front-of (joined (map pairNumbers r)) (T * w)) i) (e i))
     ∙ pairs-back n r h 0 zeros (omega (arith, length-replicate (T * w) +0, mul-le-mul-right w f))
 
+-- the same of the duty in a buffer, where it is answered
+pub read-back : (n T c : ℕ) (F : Matrix) (b : List Float) (r : List Estimate) → smooth (dutyOf n F b c) ≡ answered r → c ≤ T → pairsOf n c (outputOf n T r) ≡ r
+unfolding smooth dutyOf
+read-back n T c F b r p h =
+    let many = smoothed-count n F b c r p in
+    ap (λ (k : ℕ). pairsOf n k (outputOf n T r)) (sym many) ∙ written-back n T r (smoothed-pairs n F b c r p) (omega arith)
+
 module _ (c : Call) where
   told : Answer (List Float) → Answer (List Estimate)
   told a = let x = smoothLeft (λ l. l) (c .output) a in answerOf (c .n) (c .count) (x .0) (x .1)
@@ -42,13 +50,10 @@ module _ (c : Call) where
   unfolding told smooth dutyOf
   answers (refused k) p = refl
   answers (answered r) p =
-      let F = used (c .n) (c .n) (c .transition) in
-      let many = smoothed-count (c .n) F (c .slots) (c .count) r p in
       let within = smoothable-of (length (c .slots)) (length (c .output)) (c .n) (c .room) (c .count) (c .right) .buffer .sizes .within in
-      ap (λ (k : ℕ). answered (pairsOf (c .n) k (outputOf (c .n) (c .room) r))) (sym many)
-      ∙ ap answered (written-back (c .n) (c .room) r (smoothed-pairs (c .n) F (c .slots) (c .count) r p) (omega arith))
+      ap answered (read-back (c .n) (c .room) (c .count) (used (c .n) (c .n) (c .transition)) (c .slots) r p within)
 
-  call-is-smooth : run c ≡ smooth (duty c)
+  pub call-is-smooth : run c ≡ smooth (duty c)
   unfolding told
   call-is-smooth = ap (λ (t : Bool). told (if-sized t (mapped (outputOf (c .n) (c .room)) (smooth (duty c))))) (c .right) ∙ answers (smooth (duty c)) refl
 

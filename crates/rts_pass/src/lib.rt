@@ -11,6 +11,8 @@ ghost use Rattle.steps.specs.Step.{estimateIn, arraysOf};
 ghost use Rattle.steps.specs.Road.{matrixOf, estimateOf};
 ghost use Rattle.smoothing.specs.Smoother.{smoothedPair, smoothSlot, smoothSlots};
 ghost use Rattle.rts_pass.specs.Buffer.{pairAt, slotFrom, slotsOf, pairNumbers, roomy, counted, buffered};
+ghost use Rattle.smoothing.specs.Demand3.{Demand3};
+ghost use Rattle.rts_pass.specs.Call.{duty, run};
 ghost use Rattle.rts_pass.specs.Pass.{slotOf, smoothable, smoothOf, smoothLeft, Passed};
 use answer::Status;
 use matrix::Size;
@@ -18,6 +20,7 @@ use matrix::both;
 use matrix::kernel;
 use matrix::number;
 use matrix::size_of;
+use scalar::ControlScalar;
 use steps::road;
 use steps::road::Pair;
 use steps::road::Two;
@@ -28,7 +31,7 @@ use steps::road::Two;
 fn is_room(room: usize) -> bool
     ensures { λ t. ⌜ t ≡ roomy room ⌝ }
 {
-    both(1 <= room, room <= 64)
+    both(1 <= room, room <= ControlScalar::MAX_SLOTS)
 }
 
 // A state size, a room, and a count of slots that have room.
@@ -323,3 +326,8 @@ pub fn smooth(
         Status::Refused(1)
     }
 }
+
+// A promise: nothing is done, and the crate is not proved without demand 3 of the call.
+pub fn demand3_of_call()
+    ensures { λ r. ⌜ Demand3 duty run ⌝ }
+{}

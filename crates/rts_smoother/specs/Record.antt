@@ -107,6 +107,10 @@ getStateRefusal m b k = cond (buffered (length b) (m .n) (m .room) (m .count)) (
 abbrev pub getState : RtsSmoother → List Float → ℕ → List Float
 getState m b k = cond (eqb (getStateRefusal m b k) 0) (take (stride (m .n)) (drop (k * stride (m .n)) b)) []
 
+-- where that part begins, for a buffer that begins at p, a block and a number of bytes: at slot k, or where the buffer does
+abbrev pub placeOf : RtsSmoother → List Float → ℕ → ℕ × ℕ → ℕ × ℕ
+placeOf m b k p = cond (eqb (getStateRefusal m b k) 0) (p .0, k * stride (m .n) * 8 + p .1) p
+
 -- the smoother's stored slots, with a transition of size k; refused with 1 also where that is not the smoother's
 abbrev pub smoothWith : RtsSmoother → List Float → List (List Float) → ℕ → List Float → Status × List Float
 smoothWith m b f k o = smoothLeft (λ l. l) o (if-sized (eqb (m .n) k) (smoothInto (m .n) (m .room) (m .count) b f o))

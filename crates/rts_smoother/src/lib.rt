@@ -8,7 +8,9 @@ ghost use lib.ListN.{length};
 ghost use Rattle.matrix.specs.Size.{sized};
 ghost use Rattle.layout.specs.Layout.{placed, stride};
 ghost use Rattle.rts_pass.specs.Buffer.{slotNumbers};
-ghost use Rattle.rts_smoother.specs.Record.{slotOf, storable, stateFrom, newOf, resetOf, lenOf, isEmptyOf, storeOf, getStateRefusal, getState, smoothWith};
+ghost use Rattle.smoothing.specs.Demand3.{Demand3};
+ghost use Rattle.rts_smoother.specs.Call.{duty, run, StoredDuty};
+ghost use Rattle.rts_smoother.specs.Record.{slotOf, storable, stateFrom, newOf, resetOf, lenOf, isEmptyOf, storeOf, getStateRefusal, getState, placeOf, smoothWith};
 use answer::Status;
 use matrix::TestResult;
 use matrix::kernel;
@@ -220,6 +222,7 @@ impl RtsSmoother {
     // Slot k, as that part of the buffer itself; an empty part where it cannot be handed out.
     pub fn get_state(self, slots: &[f64], k: usize) -> &[f64]
         ensures { λ r. ⌜ now r ≡ getState self (now (slots .entry)) k ⌝ }
+        ensures { λ r. ⌜ r .ptr ≡ placeOf self (now (slots .entry)) k (slots .entry .ptr) ⌝ }
     {
         let n = self.n;
         if self.get_state_refusal(slots, k) == 0 {
@@ -250,3 +253,15 @@ impl RtsSmoother {
         }
     }
 }
+
+// ---- promises: nothing is done, and the crate is not proved without them
+
+// Demand 3 of the method `smooth`.
+pub fn demand3_of_method()
+    ensures { λ r. ⌜ Demand3 duty run ⌝ }
+{}
+
+// What a store leaves: the duty with one slot more.
+pub fn stored_duty()
+    ensures { λ r. ⌜ StoredDuty ⌝ }
+{}

@@ -1,4 +1,3 @@
 pub mod Abs
-pub mod Epsilon
 pub mod Product
 pub mod Sum

@@ -2,6 +2,7 @@
 // themselves are plain f64; the root is the crate `root`'s.
 ghost use mathlib.Core.Path.{_≡_};
 ghost use Rattle.root.specs.Root.{root as rootOfNumber};
+ghost use Rattle.scalar.specs.Promise.{EpsilonPremise};
 ghost use Rattle.scalar.specs.Number.{abs as absOf, clamp, saturated, ofWhole};
 ghost use Rattle.scalar.specs.Constants.{constants as constantsOf};
 
@@ -144,3 +145,8 @@ impl PidScalar {
         ControlScalar::clamp_val(x, min, max)
     }
 }
+
+// A promise: nothing is done, and the crate is not proved without the premise.
+pub fn epsilon_premise()
+    ensures { λ r. ⌜ EpsilonPremise ⌝ }
+{}

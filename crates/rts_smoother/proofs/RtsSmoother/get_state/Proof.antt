@@ -23,10 +23,16 @@ inside : (c : tie.After-stride-of) → let a = c .before .before .before .before
 inside c = let a = c .before .before .before .before .args in within (a .self) (a .slots .now) (a .k) (no-refusal (c .before)) (stride-here c)
 
 returns : tie.Need-returns
-returns c = simp (eq-eqb _ _ (no-refusal (c .before .before)), stride-here (c .before), add-sub-cancel-left)
+returns c = (
+  simp (eq-eqb _ _ (no-refusal (c .before .before)), stride-here (c .before), add-sub-cancel-left),
+  simp (eq-eqb _ _ (no-refusal (c .before .before)), stride-here (c .before)),
+)
 
 returns-2 : tie.Need-returns-2
-returns-2 c = simp (ne-eqb _ _ (λ e. c .before .if1 .left (c .before .before .get-state-refusal .ensures ∙ e)))
+returns-2 c = (
+  simp (ne-eqb _ _ (λ e. c .before .if1 .left (c .before .before .get-state-refusal .ensures ∙ e))),
+  simp (ne-eqb _ _ (λ e. c .before .if1 .left (c .before .before .get-state-refusal .ensures ∙ e))),
+)
 
 pub get-state-spec : {M : Type 1} → statement M
 get-state-spec =
