@@ -1,0 +1,16 @@
+pub mod Field
+pub mod Cells
+pub mod Products
+pub mod RowOps
+pub mod Inverse
+pub mod Factor
+pub mod Rotation
+pub mod Ends
+pub mod Column
+pub mod Downdate
+pub mod Information
+pub mod Rounded
+pub mod RoundedFilters
+pub mod Binary
+pub mod Example
+pub mod Statements

@@ -1,0 +1,11 @@
+pub mod Arithmetic
+pub mod Matrices
+pub mod Elimination
+pub mod Factor
+pub mod Downdate
+pub mod Linear
+pub mod Information
+pub mod Binary
+pub mod Fractions
+pub mod Example
+pub mod Textbook
