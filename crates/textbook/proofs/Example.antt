@@ -43,14 +43,14 @@ linear-update : Li.update fractions 1 1 (oneByOne (+ 1)) (oneByOne (+ 2)) (+ 5 �
     ≡ done (+ 4 ∷ []) (estimate (+ 3) (+ 1))
 unfolding divisor lowest M.sum M.mul M.transpose M.add M.sub M.identity M.matvec M.vecAdd M.vecSub
     E.pivotRow E.swapped E.scaledRow E.reduced E.exchanged E.cleared E.column E.columns E.inv
-    Li.innovationCovariance Li.innovation Li.gain Li.correctedState Li.correctedCovariance Li.corrected Li.update
+    Li.propagated Li.innovation Li.gain Li.correctedState Li.correctedCovariance Li.corrected Li.update
 linear-update = refl
 
 information-update : In.update fractions 1 1 (oneByOne (+ 1)) (oneByOne (+ 2)) (+ 5 ∷ []) (information half half)
     ≡ done (+ 2 ∷ []) (information (+ 1) (+ 3))
 unfolding divisor lowest M.sum M.mul M.transpose M.add M.identity M.matvec M.vecAdd M.vecSub
     E.pivotRow E.swapped E.scaledRow E.reduced E.exchanged E.cleared E.column E.columns E.inv
-    Li.innovation In.informedMatrix In.informedVector In.informed In.state In.update
+    Li.innovation In.informedMatrix In.informedVector In.informed In.covariance In.state In.update
 information-update = refl
 
 pub example : Example

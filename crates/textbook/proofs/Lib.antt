@@ -8,6 +8,7 @@ pub mod Rotation
 pub mod Ends
 pub mod Column
 pub mod Downdate
+pub mod InversionLemma
 pub mod Information
 pub mod Rounded
 pub mod RoundedFilters

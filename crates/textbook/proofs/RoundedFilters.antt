@@ -34,9 +34,9 @@ matvec-is r c A v =
     (λ i hi. sum-is c (λ j. rounded .times (Matrix.cell A i j) (Matrix.at v j)))
 
 -- ---- the linear filter
-covariance-is : (n m : ℕ) (H P R : Matrix.Matrix) → Li.innovationCovariance rounded n m H P R ≡ Filter.propagated m n H P R
-unfolding Li.innovationCovariance Filter.propagated M.add Matrix.add M.transpose Matrix.transpose
-covariance-is n m H P R =
+covariance-is : (m n : ℕ) (H P R : Matrix.Matrix) → Li.propagated rounded m n H P R ≡ Filter.propagated m n H P R
+unfolding Li.propagated Filter.propagated M.add Matrix.add M.transpose Matrix.transpose
+covariance-is m n H P R =
     ap (λ (Z : Matrix.Matrix). Matrix.add m m Z R)
     (mul-is m n m (M.mul rounded m n n H P) (Matrix.transpose m n H)
     ∙ ap (λ (Z : Matrix.Matrix). Matrix.mul m n m Z (Matrix.transpose m n H)) (mul-is m n n H P))
@@ -70,6 +70,66 @@ alike {A} {S} {T} {R} f a b l g h p e = by a ∙ ap (λ (o : Answer A). o else-l
     by (refused k) = refl
     by (answered x) = e x
 
+module _ (M′ : Filter.Motion) (u : Matrix.Vector) where
+  predicted-is : (x : Matrix.Vector) → Li.predictedState rounded M′.n M′.i M′.a M′.b u x ≡ Filter.predictedState M′ u x
+  unfolding Li.predictedState Filter.predictedState M.vecAdd Matrix.vecAdd
+  predicted-is x = λ t. Matrix.vecAdd M′.n (matvec-is M′.n M′.n M′.a x t) (matvec-is M′.n M′.i M′.b u t)
+
+  pub linear-predict-is : (e : Li.Estimate rounded)
+      → outcomeAs estimated (Li.predict rounded M′.n M′.i M′.a M′.b M′.q u e) ≡ Linear.predict M′ u (estimated e)
+  unfolding Li.predict Li.predicted Linear.predict
+  linear-predict-is e = λ t. done tt (Filter.estimate (predicted-is (e .state) t) (covariance-is M′.n M′.n M′.a (e .covariance) M′.q t))
+
+  pub information-predict-is : (o : In.Information rounded)
+      → outcomeAs informed (In.predict rounded M′.n M′.i M′.a M′.b M′.q u o) ≡ Information.predict M′ u (informed o)
+  unfolding In.predict Information.predict In.covariance Information.covariance
+  information-predict-is o =
+      alike informed (E.inv rounded n (o .matrix)) (Inverse.inv n (o .matrix)) unchanged
+      (λ P. E.inv rounded n (Li.propagated rounded n n M′.a P M′.q) else-leave unchanged then λ W. done tt (left P W))
+      (λ P. Inverse.inv n (Filter.propagated n n M′.a P M′.q) else-leave unchanged then λ W. done tt (left′ P W))
+      (inv-is n (o .matrix))
+      (λ P.
+      alike informed (E.inv rounded n (Li.propagated rounded n n M′.a P M′.q)) (Inverse.inv n (Filter.propagated n n M′.a P M′.q)) unchanged
+      (λ W. done tt (left P W)) (λ W. done tt (left′ P W))
+      (inv-is n (Li.propagated rounded n n M′.a P M′.q) ∙ ap (Inverse.inv n) (covariance-is n n M′.a P M′.q))
+      (λ W. λ t. done tt (record { matrix = W; vector = vector P W t })))
+    where
+      n : ℕ
+      n = M′.n
+
+      left : Matrix.Matrix → Matrix.Matrix → In.Information rounded
+      left P W = In.information rounded n W (Li.predictedState rounded n M′.i M′.a M′.b u (M.matvec rounded n n P (o .vector)))
+
+      left′ : Matrix.Matrix → Matrix.Matrix → Information.Information
+      left′ P W = Information.information n W (Filter.predictedState M′ u (Matrix.matvec n n P (o .vector)))
+
+      vector : (P W : Matrix.Matrix) → left P W .vector ≡ left′ P W .vector
+      vector P W =
+          matvec-is n n W (Li.predictedState rounded n M′.i M′.a M′.b u (M.matvec rounded n n P (o .vector)))
+          ∙ ap (Matrix.matvec n n W)
+          (predicted-is (M.matvec rounded n n P (o .vector)) ∙ ap (Filter.predictedState M′ u) (matvec-is n n P (o .vector)))
+
+-- ---- what the information filter starts from and answers
+module _ (n : ℕ) where
+  pub start-is : (e : Li.Estimate rounded) → mapped informed (In.ofEstimate rounded n e) ≡ Information.ofEstimate n (estimated e)
+  unfolding In.ofEstimate Information.ofEstimate
+  start-is e =
+      fused (E.inv rounded n (e .covariance))
+      ∙ (λ t. mapped (λ W. record { matrix = W; vector = matvec-is n n W (e .state) t }) (inv-is n (e .covariance) t))
+    where
+      fused : (a : Answer Matrix.Matrix) → mapped informed (mapped (λ W. In.information rounded n W (e .state)) a)
+          ≡ mapped (λ W. informed (In.information rounded n W (e .state))) a
+      fused (refused k) = refl
+      fused (answered W) = refl
+
+  pub covariance-answered : (o : In.Information rounded) → In.covariance rounded n o ≡ Information.covariance n (informed o)
+  unfolding In.covariance Information.covariance
+  covariance-answered o = inv-is n (o .matrix)
+
+  pub state-answered : (o : In.Information rounded) → In.state rounded n o ≡ Information.state n (informed o)
+  unfolding In.state Information.state
+  state-answered o = λ t. mapped (λ P. matvec-is n n P (o .vector) t) (covariance-answered o t)
+
 module _ (Y : Filter.Sensor Matrix.Matrix) (z : Matrix.Vector) where
   module _ (e : Li.Estimate rounded) where
     abbrev K : Matrix.Matrix → Matrix.Matrix
@@ -94,15 +154,15 @@ module _ (Y : Filter.Sensor Matrix.Matrix) (z : Matrix.Vector) where
             (λ t. Li.correctedCovariance rounded Y.n Y.m (gain-is Y.n Y.m (e .covariance) Y.h W t) Y.h (e .covariance))
             ∙ corrected-is Y.n Y.m (K W) Y.h (e .covariance)
 
-    pub linear-is : outcomeAs estimated (Li.update rounded Y.n Y.m Y.h Y.r z e) ≡ Linear.update Y z (estimated e)
+    pub linear-update-is : outcomeAs estimated (Li.update rounded Y.n Y.m Y.h Y.r z e) ≡ Linear.update Y z (estimated e)
     unfolding Li.update Linear.update
-    linear-is =
-        alike estimated (E.inv rounded Y.m (Li.innovationCovariance rounded Y.n Y.m Y.h (e .covariance) Y.r))
+    linear-update-is =
+        alike estimated (E.inv rounded Y.m (Li.propagated rounded Y.m Y.n Y.h (e .covariance) Y.r))
         (Inverse.inv Y.m (Filter.propagated Y.m Y.n Y.h (e .covariance) Y.r)) unchanged
         (λ W. done (Li.innovation rounded Y.n Y.m Y.h (e .state) z) (Li.corrected rounded Y.n Y.m Y.h z e W))
         (Linear.correction Y z (estimated e))
-        (inv-is Y.m (Li.innovationCovariance rounded Y.n Y.m Y.h (e .covariance) Y.r)
-        ∙ ap (Inverse.inv Y.m) (covariance-is Y.n Y.m Y.h (e .covariance) Y.r))
+        (inv-is Y.m (Li.propagated rounded Y.m Y.n Y.h (e .covariance) Y.r)
+        ∙ ap (Inverse.inv Y.m) (covariance-is Y.m Y.n Y.h (e .covariance) Y.r))
         correction-is
 
   -- ---- the information filter
@@ -125,14 +185,9 @@ module _ (Y : Filter.Sensor Matrix.Matrix) (z : Matrix.Vector) where
             matvec-is Y.n Y.m Hᵀ (M.matvec rounded Y.m Y.m W z)
             ∙ ap (Matrix.matvec Y.n Y.m Hᵀ) (matvec-is Y.m Y.m W z)
 
-    answered-is : (p : In.Information rounded) → In.state rounded Y.n p ≡ Information.state Y.n (informed p)
-    unfolding In.state Information.state Information.covariance
-    answered-is p =
-        (λ t. mapped (λ P. matvec-is Y.n Y.n P (p .vector) t) (inv-is Y.n (p .matrix) t))
-
-    pub information-is : outcomeAs informed (In.update rounded Y.n Y.m Y.h Y.r z o) ≡ Information.update Y z (informed o)
+    pub information-update-is : outcomeAs informed (In.update rounded Y.n Y.m Y.h Y.r z o) ≡ Information.update Y z (informed o)
     unfolding In.update Information.update
-    information-is =
+    information-update-is =
         alike informed (E.inv rounded Y.m Y.r) (Inverse.inv Y.m Y.r) unchanged
         (λ W. In.state rounded Y.n (p W) else-leave (this (p W)) then λ x. done (Li.innovation rounded Y.n Y.m Y.h x z) (p W))
         (λ W. Information.state Y.n (q W) else-leave (this (q W)) then λ x. done (Filter.innovation Y.m Y.n Y.h x z) (q W))
@@ -140,7 +195,7 @@ module _ (Y : Filter.Sensor Matrix.Matrix) (z : Matrix.Vector) where
         (λ W.
         alike informed (In.state rounded Y.n (p W)) (Information.state Y.n (informed (p W))) (this (p W))
         (λ x. done (Li.innovation rounded Y.n Y.m Y.h x z) (p W)) (λ x. done (Filter.innovation Y.m Y.n Y.h x z) (informed (p W)))
-        (answered-is (p W)) (λ x. ap (λ (y : Matrix.Vector). done y (informed (p W))) (innovation-is Y.n Y.m Y.h x z))
+        (state-answered Y.n (p W)) (λ x. ap (λ (y : Matrix.Vector). done y (informed (p W))) (innovation-is Y.n Y.m Y.h x z))
         ∙ ap (λ (i : Information.Information). Information.state Y.n i else-leave (this i) then λ x. done (Filter.innovation Y.m Y.n Y.h x z) i)
         (informed-is W))
       where

@@ -1,5 +1,5 @@
 -- The information filter, in any arithmetic: the filtering crate's is this one at `rounded`. It keeps the inverted covariance Ω, and Ω × the state.
--- n states and m measurements; measurement matrix H, measurement noise R, measurement z. Definitions only.
+-- n states, i inputs, m measurements. The state moves to A x + B u, with noise Q; z = H x is measured, with noise R. Definitions only.
 use mathlib.Core.Path.{_≡_}
 use Prim.Native.Nat.{ℕ}
 use Rattle.answer.specs.Answer.{Answer, mapped}
@@ -7,7 +7,7 @@ use Rattle.answer.specs.Outcome.{Outcome, unchanged, this, done, _else-leave_th
 use Rattle.textbook.specs.Arithmetic.{Arithmetic}
 use Rattle.textbook.specs.Matrices.{Vec, Mat, vecAdd, matvec, transpose, add, mul, Inverse}
 use Rattle.textbook.specs.Elimination.{inv}
-use Rattle.textbook.specs.Linear.{Estimate, innovation}
+use Rattle.textbook.specs.Linear.{Estimate, predictedState, propagated, innovation}
 
 module _ (N : Arithmetic) where
   pub record Information : Type 0 where
@@ -15,11 +15,25 @@ module _ (N : Arithmetic) where
     pub vector : Vec N
 
   module _ (n : ℕ) where
+    -- Ω, and Ω x
+    abbrev pub information : Mat N → Vec N → Information
+    information W x = record { matrix = W; vector = matvec N n n W x }
+
     unfoldable pub ofEstimate : Estimate N → Answer Information
-    ofEstimate e = mapped (λ W. record { matrix = W; vector = matvec N n n W (e .state) }) (inv N n (e .covariance))
+    ofEstimate e = mapped (λ W. information W (e .state)) (inv N n (e .covariance))
+
+    unfoldable pub covariance : Information → Answer (Mat N)
+    covariance o = inv N n (o .matrix)
 
     unfoldable pub state : Information → Answer (Vec N)
-    state o = mapped (λ P. matvec N n n P (o .vector)) (inv N n (o .matrix))
+    state o = mapped (λ P. matvec N n n P (o .vector)) (covariance o)
+
+    -- Refused with 3 where inversion rejects Ω, or the predicted covariance; nothing changes
+    unfoldable pub predict : ℕ → Mat N → Mat N → Mat N → Vec N → Information → Outcome Information (Unit {0})
+    predict i A B Q u o =
+        covariance o else-leave unchanged then λ P.
+        inv N n (propagated N n n A P Q) else-leave unchanged then λ W.
+        done tt (information W (predictedState N n i A B u (matvec N n n P (o .vector))))
 
     module _ (m : ℕ) where
       -- Ω + Hᵀ W H, and Ω x + Hᵀ (W z), where W is the inverted noise
@@ -32,7 +46,8 @@ module _ (N : Arithmetic) where
       unfoldable pub informed : Mat N → Mat N → Vec N → Information → Information
       informed H W z o = record { matrix = informedMatrix H W (o .matrix); vector = informedVector H W z (o .vector) }
 
-      -- It tells z less H × the state after the addition. Refused with 3: inversion rejects R, and nothing changes; or the new Ω, and the addition stays
+      -- It tells z less H × the state after the addition.
+      -- Refused with 3: inversion rejects R, and nothing changes; or the new Ω, and the addition stays
       unfoldable pub update : Mat N → Mat N → Vec N → Information → Outcome Information (Vec N)
       update H R z o =
           inv N m R else-leave unchanged then λ W.

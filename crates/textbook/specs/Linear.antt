@@ -1,5 +1,5 @@
--- The linear filter's update, in any arithmetic: the filtering crate's is this one at `rounded`. Kalman 1960. Definitions only.
--- n states and m measurements; measurement matrix H, measurement noise R, state x, covariance P, measurement z.
+-- The linear filter, in any arithmetic: the filtering crate's is this one at `rounded`. Kalman 1960. Definitions only.
+-- n states, i inputs, m measurements. State x with covariance P moves to A x + B u, with noise Q; z = H x is measured, with noise R.
 use Prim.Native.Nat.{ℕ}
 use Rattle.answer.specs.Outcome.{Outcome, unchanged, done, _else-leave_then_}
 use Rattle.textbook.specs.Arithmetic.{Arithmetic}
@@ -11,11 +11,22 @@ module _ (N : Arithmetic) where
     pub state : Vec N
     pub covariance : Mat N
 
-  module _ (n m : ℕ) where
-    -- H P Hᵀ + R
-    unfoldable pub innovationCovariance : Mat N → Mat N → Mat N → Mat N
-    innovationCovariance H P R = add N m m (mul N m n m (mul N m n n H P) (transpose N m n H)) R
+  -- A P Aᵀ + Q, for an A of r rows and n columns
+  unfoldable pub propagated : ℕ → ℕ → Mat N → Mat N → Mat N → Mat N
+  propagated r n A P Q = add N r r (mul N r n r (mul N r n n A P) (transpose N r n A)) Q
 
+  module _ (n i : ℕ) where
+    -- A x + B u
+    unfoldable pub predictedState : Mat N → Mat N → Vec N → Vec N → Vec N
+    predictedState A B u x = vecAdd N n (matvec N n n A x) (matvec N n i B u)
+
+    unfoldable pub predicted : Mat N → Mat N → Mat N → Vec N → Estimate → Estimate
+    predicted A B Q u e = record { state = predictedState A B u (e .state); covariance = propagated n n A (e .covariance) Q }
+
+    unfoldable pub predict : Mat N → Mat N → Mat N → Vec N → Estimate → Outcome Estimate (Unit {0})
+    predict A B Q u e = done tt (predicted A B Q u e)
+
+  module _ (n m : ℕ) where
     -- z - H x
     unfoldable pub innovation : Mat N → Vec N → Vec N → Vec N
     innovation H x z = vecSub N m z (matvec N m n H x)
@@ -41,8 +52,8 @@ module _ (N : Arithmetic) where
           covariance = correctedCovariance K H (e .covariance);
         }
 
-    -- it tells the innovation; refused with 3 where inversion rejects the innovation covariance
+    -- it tells the innovation; refused with 3 where inversion rejects the innovation covariance H P Hᵀ + R
     unfoldable pub update : Mat N → Mat N → Vec N → Estimate → Outcome Estimate (Vec N)
     update H R z e =
-        inv N m (innovationCovariance H (e .covariance) R) else-leave unchanged then λ W.
+        inv N m (propagated m n H (e .covariance) R) else-leave unchanged then λ W.
         done (innovation H (e .state) z) (corrected H z e W)
