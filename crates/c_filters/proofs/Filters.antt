@@ -17,7 +17,7 @@ use Rattle.layout.proofs.Places.{placed-whole}
 use Rattle.layout.proofs.Calls.{slice-put}
 use Rattle.steps.specs.Step.{wellSized}
 use Rattle.steps.proofs.Sizes as Sizes
-use Rattle.c_filters.specs.Filter.{estimateFrom, isFilter, isStep, isStepWith, isParts}
+use Rattle.c_filters.specs.Filter.{estimatePlace, isFilter, isStep, isStepWith, isParts}
 
 -- ---- the products of the sizes are small
 pub record Few (n m i : ℕ) : Type 0 where

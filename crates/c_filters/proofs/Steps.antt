@@ -24,13 +24,13 @@ use Rattle.layout.specs.Layout.{vectorIn, matrixIn, joined, placed, putAt, filt
 use Rattle.layout.proofs.Places.{placed-whole}
 use Rattle.layout.proofs.Rows.{whole-vector}
 use Rattle.layout.proofs.Calls.{vector-used, part-read, pair-put, vector-put}
-use Rattle.steps.specs.Step.{Rows, motionIn, sensorIn, estimateIn, leftIn, updatedIn}
+use Rattle.steps.specs.Step.{Rows, motionRows, sensorRows, estimateRows, leftRows, updatedRows}
 use Rattle.steps.proofs.Sizes as Sizes
-use Rattle.c_filters.specs.Filter.{estimateFrom, motionAt, sensorAt, estimateAt, withEstimate, outcomeIn}
+use Rattle.c_filters.specs.Filter.{estimatePlace, motionAt, sensorAt, estimateAt, withEstimate, outcomeIn}
 use Rattle.c_filters.proofs.Filters.{Whole}
 
 -- f is the slice; N, M and I are the sizes as the code has them, and k where the estimate begins
-module _ (n m i : ℕ) (f : List Float) (W : Whole n m i (length f)) {N M I : Size} {k : ℕ} (en : N ≡ sizeOf n) (em : M ≡ sizeOf m) (ei : I ≡ sizeOf i) (ek : k ≡ estimateFrom n m i) where
+module _ (n m i : ℕ) (f : List Float) (W : Whole n m i (length f)) {N M I : Size} {k : ℕ} (en : N ≡ sizeOf n) (em : M ≡ sizeOf m) (ei : I ≡ sizeOf i) (ek : k ≡ estimatePlace n m i) where
   isN : count N ≡ n
   isN = is-count (Sizes.well-sized n m i (W .sizes) .states) en
 
@@ -42,7 +42,7 @@ module _ (n m i : ℕ) (f : List Float) (W : Whole n m i (length f)) {N M I : Si
 
   -- what is read
   motion-read : {a b q : Rows} → a ≡ pad (matrixIn (count N) (count N) f 0) → b ≡ pad (matrixIn (count N) (count I) f (n * n))
-      → q ≡ pad (matrixIn (count N) (count N) f (n * n + n * i + m * n)) → motionIn N I a b q ≡ motionAt n m i f
+      → q ≡ pad (matrixIn (count N) (count N) f (n * n + n * i + m * n)) → motionRows N I a b q ≡ motionAt n m i f
   motion-read ea eb eq =
       let L = filterParts n m i in
       λ t. record {
@@ -54,12 +54,12 @@ module _ (n m i : ℕ) (f : List Float) (W : Whole n m i (length f)) {N M I : Si
       }
 
   sensor-read : {h r : Rows} → h ≡ pad (matrixIn (count M) (count N) f (n * n + n * i)) → r ≡ pad (matrixIn (count M) (count M) f (n * n + n * i + m * n + n * n))
-      → sensorIn N M h r ≡ sensorAt n m i f
+      → sensorRows N M h r ≡ sensorAt n m i f
   sensor-read eh er =
       let L = filterParts n m i in
       λ t. record { n = isN t; m = isM t; h = part-read L f 2 (omega (arith, W .long)) (omega arith) isM isN (omega arith) eh t; r = part-read L f 4 (omega (arith, W .long)) (omega arith) isM isM (omega arith) er t }
 
-  estimate-read : {x : List Float} {p : Rows} → x ≡ padRow (vectorIn (count N) f k) → p ≡ pad (matrixIn (count N) (count N) f (k + n)) → estimateIn N x p ≡ estimateAt n m i f
+  estimate-read : {x : List Float} {p : Rows} → x ≡ padRow (vectorIn (count N) f k) → p ≡ pad (matrixIn (count N) (count N) f (k + n)) → estimateRows N x p ≡ estimateAt n m i f
   estimate-read ex ep =
       let L = filterParts n m i in
       λ t. estimate ((vector-used k f isN (omega (arith, W .long, ek)) ex ∙ ap (Rattle.layout.specs.Layout.vectorAt n f) ek) t) (part-read L f 6 (omega (arith, W .long)) (omega arith) isN isN (omega (arith, ek)) ep t)
@@ -82,12 +82,12 @@ module _ (n m i : ℕ) (f : List Float) (W : Whole n m i (length f)) {N M I : Si
       → v ≡ padRow (vectorIn (count I) u 0)
       → x ≡ padRow (vectorIn (count N) f k)
       → p ≡ pad (matrixIn (count N) (count N) f (k + n))
-      → (x′, p′) ≡ leftIn x p (predict (motionIn N I a b q) (cut (count I) v) (estimateIn N x p))
+      → (x′, p′) ≡ leftRows x p (predict (motionRows N I a b q) (cut (count I) v) (estimateRows N x p))
       → g ≡ putAt k (cut (count N) x′ ++ joined (used (count N) (count N) p′)) f
       → g ≡ standing (withEstimate n m i f) f (predict (motionAt n m i f) u (estimateAt n m i f) .left)
   unfolding predict
   predicts u {a} {b} {q} {p} {p′} {v} {x} {x′} l ea eb eq ev ex ep s r =
-      let both = s ∙ (λ t. leftIn x p (predict (motion-read ea eb eq t) (vector-given I u isI l ev t) (estimate-read ex ep t))) in
+      let both = s ∙ (λ t. leftRows x p (predict (motion-read ea eb eq t) (vector-given I u isI l ev t) (estimate-read ex ep t))) in
       put-back {e = estimate (predictedState (motionAt n m i f) u (estimateAt n m i f .state)) (predictedCovariance (motionAt n m i f) (estimateAt n m i f .covariance))}
       (record { state = length-predictedState (motionAt n m i f) u (estimateAt n m i f .state); covariance = shape-propagated n n (motionAt n m i f .a) (estimateAt n m i f .covariance) (motionAt n m i f .q) }) (λ t. both t .0) (λ t. both t .1) r
 
@@ -98,18 +98,18 @@ module _ (n m i : ℕ) (f : List Float) (W : Whole n m i (length f)) {N M I : Si
       (ew : w ≡ padRow (vectorIn (count M) z 0))
       (ex : x ≡ padRow (vectorIn (count N) f k))
       (ep : p ≡ pad (matrixIn (count N) (count N) f (k + n)))
-      (s : (v, (x′, p′)) ≡ updatedIn x p (update (sensorIn N M h r) (cut (count M) w) (estimateIn N x p))) where
+      (s : (v, (x′, p′)) ≡ updatedRows x p (update (sensorRows N M h r) (cut (count M) w) (estimateRows N x p))) where
     abbrev pub outcome : Outcome Estimate Vector
     outcome = update (sensorAt n m i f) z (estimateAt n m i f)
 
-    same : (v, (x′, p′)) ≡ updatedIn x p outcome
-    same = s ∙ (λ t. updatedIn x p (update (sensor-read eh er t) (vector-given M z isM l ew t) (estimate-read ex ep t)))
+    same : (v, (x′, p′)) ≡ updatedRows x p outcome
+    same = s ∙ (λ t. updatedRows x p (update (sensor-read eh er t) (vector-given M z isM l ew t) (estimate-read ex ep t)))
 
     pub updates : (y : List Float) {g y′ : List Float} → length y ≡ m → v .status ≡ Done → g ≡ putAt k (cut (count N) x′ ++ joined (used (count N) (count N) p′)) f
         → y′ ≡ putAt 0 (cut (count M) (v .cells)) y → (0, (g, y′)) ≡ outcomeIn n m i f y outcome
     updates y {g} {y′} ly d eg ey = go outcome (way _ _ _) same
       where
-        go : (o : Outcome Estimate Vector) → Way n m o → (v, (x′, p′)) ≡ updatedIn x p o → (0, (g, y′)) ≡ outcomeIn n m i f y o
+        go : (o : Outcome Estimate Vector) → Way n m o → (v, (x′, p′)) ≡ updatedRows x p o → (0, (g, y′)) ≡ outcomeIn n m i f y o
         go o (stopped j) e = absurd (done-not-refused (sym d ∙ λ t. e t .0 .status))
         go o (went c b lc sb) e =
             let there : y′ ≡ c =
@@ -121,6 +121,6 @@ module _ (n m i : ℕ) (f : List Float) (W : Whole n m i (length f)) {N M I : Si
     pub refuses : (y : List Float) {j : ℕ} → v .status ≡ Refused j → (j, (f, y)) ≡ outcomeIn n m i f y outcome
     refuses y {j} d = go outcome (way _ _ _) same
       where
-        go : (o : Outcome Estimate Vector) → Way n m o → (v, (x′, p′)) ≡ updatedIn x p o → (j, (f, y)) ≡ outcomeIn n m i f y o
+        go : (o : Outcome Estimate Vector) → Way n m o → (v, (x′, p′)) ≡ updatedRows x p o → (j, (f, y)) ≡ outcomeIn n m i f y o
         go o (stopped q) e = let there : _≡_ {A = Status} (Refused j) (Refused q) = sym d ∙ (λ t. e t .0 .status) in let number : j ≡ q = cc in λ t. (number t, (f, y))
         go o (went c b lc sb) e = absurd (done-not-refused ((λ t. sym e t .0 .status) ∙ d))

@@ -18,8 +18,8 @@ use Rattle.steps.specs.Road.{Filter, trackerOf}
 -- ---- sizes
 
 -- where the estimate begins
-abbrev pub estimateFrom : ℕ → ℕ → ℕ → ℕ
-estimateFrom n m i = offset (filterParts n m i) 5
+abbrev pub estimatePlace : ℕ → ℕ → ℕ → ℕ
+estimatePlace n m i = offset (filterParts n m i) 5
 
 -- a slice of k numbers is just a filter
 unfoldable pub isFilter : ℕ → ℕ → ℕ → ℕ → Bool
@@ -45,7 +45,7 @@ abbrev pub sensorAt : ℕ → ℕ → ℕ → List Float → Sensor Matrix
 sensorAt n m i f = let L = filterParts n m i in record { n = n; m = m; h = partAt L f 2; r = partAt L f 4 }
 
 abbrev pub estimateAt : ℕ → ℕ → ℕ → List Float → Estimate
-estimateAt n m i f = let L = filterParts n m i in estimate (vectorAt n f (estimateFrom n m i)) (partAt L f 6)
+estimateAt n m i f = let L = filterParts n m i in estimate (vectorAt n f (estimatePlace n m i)) (partAt L f 6)
 
 -- the filter of one road
 abbrev pub roadIn : List Float → Filter
@@ -53,7 +53,7 @@ roadIn f = record { motion = motionAt 2 1 1 f; sensor = sensorAt 2 1 1 f; start 
 
 -- the slice with another estimate; its model stays as it stands
 abbrev pub withEstimate : ℕ → ℕ → ℕ → List Float → Estimate → List Float
-withEstimate n m i f e = placed (estimateFrom n m i) (e .state ++ joined (e .covariance)) f
+withEstimate n m i f e = placed (estimatePlace n m i) (e .state ++ joined (e .covariance)) f
 
 -- ---- the steps: 1 where a size does not fit, else the filter's own outcome; what is told is a number
 abbrev pub predictedIn : ℕ → ℕ → ℕ → List Float → Outcome Estimate (Unit {0}) → ℕ × List Float
@@ -89,14 +89,14 @@ newIn n m i k a b h q r x p =
 
 -- f with the state x and the covariance p
 abbrev pub resetIn : ℕ → ℕ → ℕ → List Float → List Float → List Float → Answer (List Float)
-resetIn n m i f x p = where-sized (isStepWith n m i (length f) n (length x) (n * n) (length p)) (placed (estimateFrom n m i) (x ++ p) f)
+resetIn n m i f x p = where-sized (isStepWith n m i (length f) n (length x) (n * n) (length p)) (placed (estimatePlace n m i) (x ++ p) f)
 
 -- the state of f, and its covariance by rows, for a slice of k numbers
 abbrev pub stateIn : ℕ → ℕ → ℕ → List Float → ℕ → Answer (List Float)
-stateIn n m i f k = where-sized (isStep n m i (length f) n k) (take n (drop (estimateFrom n m i) f))
+stateIn n m i f k = where-sized (isStep n m i (length f) n k) (take n (drop (estimatePlace n m i) f))
 
 abbrev pub covarianceIn : ℕ → ℕ → ℕ → List Float → ℕ → Answer (List Float)
-covarianceIn n m i f k = where-sized (isStep n m i (length f) (n * n) k) (take (n * n) (drop (estimateFrom n m i + n) f))
+covarianceIn n m i f k = where-sized (isStep n m i (length f) (n * n) k) (take (n * n) (drop (estimatePlace n m i + n) f))
 
 -- the slice of a model and an estimate
 abbrev pub filterNumbers : Filter → List Float

@@ -10,7 +10,7 @@ ghost use Rattle.answer.specs.Told.{given};
 ghost use Rattle.steps.specs.Step.{wellSized};
 ghost use Rattle.steps.specs.Road.{roadOf, estimateOf};
 ghost use Rattle.layout.specs.Layout.{joined};
-ghost use Rattle.c_filters.specs.Filter.{estimateFrom, isFilter, isStep, isStepWith, isParts, isRoad, roadIn, withEstimate, predictIn, updateIn, newIn, resetIn, stateIn, covarianceIn, filterNumbers, trackerIn};
+ghost use Rattle.c_filters.specs.Filter.{estimatePlace, isFilter, isStep, isStepWith, isParts, isRoad, roadIn, withEstimate, predictIn, updateIn, newIn, resetIn, stateIn, covarianceIn, filterNumbers, trackerIn};
 use answer::Status;
 use matrix::ScalarResult;
 use matrix::both;
@@ -23,9 +23,9 @@ use steps::road::Two;
 // ---- sizes and places
 
 // Where the estimate begins.
-fn estimate_from(n: usize, m: usize, i: usize) -> usize
+fn estimate_place(n: usize, m: usize, i: usize) -> usize
     requires { ⌜ wellSized n m i ≡ true ⌝ }
-    ensures { λ k. ⌜ (k ≡ estimateFrom n m i) × (k ≤ 80) ⌝ }
+    ensures { λ k. ⌜ (k ≡ estimatePlace n m i) × (k ≤ 80) ⌝ }
 {
     n * n + n * i + m * n + n * n + m * m
 }
@@ -35,7 +35,7 @@ fn is_filter(n: usize, m: usize, i: usize, len: usize) -> bool
     ensures { λ t. ⌜ t ≡ isFilter n m i len ⌝ }
 {
     if steps::is_well_sized(n, m, i) {
-        len == estimate_from(n, m, i) + (n + n * n)
+        len == estimate_place(n, m, i) + (n + n * n)
     } else {
         false
     }
@@ -55,7 +55,7 @@ fn predict_rows(n: usize, m: usize, i: usize, filter: &mut [f64], u: &[f64]) -> 
     ensures { λ t. ⌜ (t, now (filter .exit)) ≡ predictIn n m i (now (filter .entry)) (now (u .entry)) ⌝ }
 {
     if is_step(n, m, i, filter.len(), i, u.len()) {
-        let from = estimate_from(n, m, i);
+        let from = estimate_place(n, m, i);
         let sn = size_of(n);
         let si = size_of(i);
         let a = layout::matrix_at(filter, 0, sn, sn);
@@ -87,7 +87,7 @@ fn update_rows(
         is_step(n, m, i, filter.len(), m, z.len()),
         innovation.len() == m,
     ) {
-        let from = estimate_from(n, m, i);
+        let from = estimate_place(n, m, i);
         let sn = size_of(n);
         let sm = size_of(m);
         let h = layout::matrix_at(filter, n * n + n * i, sm, sn);
@@ -300,7 +300,7 @@ pub fn kalman_reset(n: usize, m: usize, i: usize, filter: &mut [f64], x0: &[f64]
 {
     if is_step(n, m, i, filter.len(), n, x0.len()) {
         if p0.len() == n * n {
-            let from = estimate_from(n, m, i);
+            let from = estimate_place(n, m, i);
             layout::put_slice(filter, from, x0);
             layout::put_slice(filter, from + n, p0);
             return 0;
@@ -314,7 +314,7 @@ pub fn kalman_state(n: usize, m: usize, i: usize, filter: &[f64], out: &mut [f64
     ensures { λ t. ⌜ (t, now (out .exit)) ≡ given (now (out .entry)) (stateIn n m i (now (filter .entry)) (length (now (out .entry)))) ⌝ }
 {
     if is_step(n, m, i, filter.len(), n, out.len()) {
-        let from = estimate_from(n, m, i);
+        let from = estimate_place(n, m, i);
         let end = from + n;
         layout::put_slice(out, 0, &filter[from..end]);
         0
@@ -329,7 +329,7 @@ pub fn kalman_covariance(n: usize, m: usize, i: usize, filter: &[f64], out: &mut
 {
     if is_filter(n, m, i, filter.len()) {
         if out.len() == n * n {
-            let from = estimate_from(n, m, i) + n;
+            let from = estimate_place(n, m, i) + n;
             let end = from + n * n;
             layout::put_slice(out, 0, &filter[from..end]);
             return 0;

@@ -16,7 +16,7 @@ use Rattle.filtering.specs.Linear.{update}
 use Rattle.kalman.specs.declared.KalmanFilter.{KalmanFilter}
 use Rattle.kalman.specs.declared.Updated.{Updated}
 use Rattle.kalman.specs.declared.UpdatedOne.{UpdatedOne}
-use Rattle.kalman.specs.Record.{sensorIn, estimateIn, holding, updating, updateOf, updateOneOf}
+use Rattle.kalman.specs.Record.{sensorFlat, estimateFlat, holding, updating, updateOf, updateOneOf}
 use Rattle.steps.specs.Step.{fitting}
 use Rattle.steps.proofs.Sizes.{as-asked}
 use Rattle.filtering.proofs.Shapes.{Way, stopped, way}
@@ -30,7 +30,7 @@ module _ (f : KalmanFilter) (z : Float) where
   test = fitting (f .n) (f .m) (f .i) (f .m) 1
 
   abbrev by : Vector → Outcome Estimate Vector
-  by v = update (sensorIn (f .n) (f .m) (f .h) (f .r)) v (estimateIn (f .n) (f .x) (f .p))
+  by v = update (sensorFlat (f .n) (f .m) (f .h) (f .r)) v (estimateFlat (f .n) (f .x) (f .p))
 
   is-one : test ≡ true → f .m ≡ 1
   is-one h = as-asked (f .n) (f .m) (f .i) (f .m) 1 h

@@ -23,7 +23,7 @@ use Rattle.filtering.specs.Filter.{Motion, Estimate, estimate}
 use Rattle.filtering.specs.Linear.{predict, update}
 use Rattle.steps.specs.Step as Step
 use Rattle.steps.specs.Road.{updatedOf}
-use Rattle.kalman.specs.Record.{flat, flatsOf, motionIn, sensorIn, estimateIn, leftIn}
+use Rattle.kalman.specs.Record.{flat, flatsOf, motionFlat, sensorFlat, estimateFlat, leftFlat}
 use Rattle.steps.specs.Step.{fitting}
 use Rattle.steps.proofs.Sizes.{Fits, fits}
 
@@ -33,44 +33,44 @@ module _ (r c : Size) where
   read f e = ap (part r c) e ∙ used-rowsOfFlat (count r) (count c) f (bounds r .most) (bounds c .most)
 
 pub read-motion : (n i : Size) (a b q : List Float) {A B Q : Step.Rows} → A ≡ rowsOfFlat a → B ≡ rowsOfFlat b → Q ≡ rowsOfFlat q
-    → Step.motionIn n i A B Q ≡ motionIn (count n) (count i) a b q
+    → Step.motionFlat n i A B Q ≡ motionFlat (count n) (count i) a b q
 read-motion n i a b q ea eb ed = λ k. record { n = count n; i = count i; a = read n n a ea k; b = read n i b eb k; q = read n n q ed k }
 
-read-sensor : (n m : Size) (h r : List Float) {H R : Step.Rows} → H ≡ rowsOfFlat h → R ≡ rowsOfFlat r → Step.sensorIn n m H R ≡ sensorIn (count n) (count m) h r
+read-sensor : (n m : Size) (h r : List Float) {H R : Step.Rows} → H ≡ rowsOfFlat h → R ≡ rowsOfFlat r → Step.sensorFlat n m H R ≡ sensorFlat (count n) (count m) h r
 read-sensor n m h r eh er = λ k. record { n = count n; m = count m; h = read m n h eh k; r = read m m r er k }
 
-pub read-estimate : (n : Size) (x p : List Float) {P : Step.Rows} → P ≡ rowsOfFlat p → Step.estimateIn n x P ≡ estimateIn (count n) x p
+pub read-estimate : (n : Size) (x p : List Float) {P : Step.Rows} → P ≡ rowsOfFlat p → Step.estimateFlat n x P ≡ estimateFlat (count n) x p
 read-estimate n x p e = λ k. estimate (cut (count n) x) (read n n p e k)
 
 pub read-update : (n m : Size) (h r z x p : List Float) {H R P : Step.Rows} {y : VectorResult × (List Float × Step.Rows)} → H ≡ rowsOfFlat h → R ≡ rowsOfFlat r → P ≡ rowsOfFlat p
-    → y ≡ Step.updatedIn x P (update (Step.sensorIn n m H R) (front m z) (Step.estimateIn n x P))
-    → y ≡ Step.updatedIn x P (update (sensorIn (count n) (count m) h r) (front m z) (estimateIn (count n) x p))
-read-update n m h r z x p {H} {R} {P} eh er ep g = g ∙ λ k. Step.updatedIn x P (update (read-sensor n m h r eh er k) (front m z) (read-estimate n x p ep k))
+    → y ≡ Step.updatedRows x P (update (Step.sensorFlat n m H R) (front m z) (Step.estimateFlat n x P))
+    → y ≡ Step.updatedRows x P (update (sensorFlat (count n) (count m) h r) (front m z) (estimateFlat (count n) x p))
+read-update n m h r z x p {H} {R} {P} eh er ep g = g ∙ λ k. Step.updatedRows x P (update (read-sensor n m h r eh er k) (front m z) (read-estimate n x p ep k))
 
 -- likewise of one road, whose estimate is e
-pub road-update : (h r z x p : List Float) {e : Estimate} {y : ScalarResult × Estimate} → e ≡ estimateIn 2 x p → y ≡ updatedOf e (update (sensorIn 2 1 h r) (cut 1 z) e)
-    → y ≡ updatedOf (estimateIn 2 x p) (update (sensorIn 2 1 h r) (cut 1 z) (estimateIn 2 x p))
-road-update h r z x p d g = g ∙ λ k. updatedOf (d k) (update (sensorIn 2 1 h r) (cut 1 z) (d k))
+pub road-update : (h r z x p : List Float) {e : Estimate} {y : ScalarResult × Estimate} → e ≡ estimateFlat 2 x p → y ≡ updatedOf e (update (sensorFlat 2 1 h r) (cut 1 z) e)
+    → y ≡ updatedOf (estimateFlat 2 x p) (update (sensorFlat 2 1 h r) (cut 1 z) (estimateFlat 2 x p))
+road-update h r z x p d g = g ∙ λ k. updatedOf (d k) (update (sensorFlat 2 1 h r) (cut 1 z) (d k))
 
 -- ---- a prediction on rows, and of one road
 module _ (M : Motion) (u : Vector) (e : Estimate) (x p : List Float) where
-  pub rows-predicted : (a : Step.Rows) {x′ p′ : List Float} {a′ : Step.Rows} → (x′, a′) ≡ Step.leftIn x a (predict M u e) → p′ ≡ flatOfRows a′ → (x′, p′) ≡ leftIn x p (predict M u e)
+  pub rows-predicted : (a : Step.Rows) {x′ p′ : List Float} {a′ : Step.Rows} → (x′, a′) ≡ Step.leftFlat x a (predict M u e) → p′ ≡ flatOfRows a′ → (x′, p′) ≡ leftFlat x p (predict M u e)
   unfolding predict
   rows-predicted a g f = λ t. (g t .0, (f ∙ λ t. flatOfRows (g t .1)) t)
 
-  pub road-predicted : {p′ : List Float} {g : Estimate} → done tt g ≡ predict M u e → p′ ≡ flat (g .covariance) → (padRow (g .state), p′) ≡ leftIn x p (predict M u e)
-  road-predicted {g = g} q f = (λ t. (padRow (g .state), f t)) ∙ ap (leftIn x p) q
+  pub road-predicted : {p′ : List Float} {g : Estimate} → done tt g ≡ predict M u e → p′ ≡ flat (g .covariance) → (padRow (g .state), p′) ≡ leftFlat x p (predict M u e)
+  road-predicted {g = g} q f = (λ t. (padRow (g .state), f t)) ∙ ap (leftFlat x p) q
 
-  pub was-predicted : {w : List Float × List Float} → w ≡ leftIn x p (predict M u e) → (Done, w) ≡ handed statusOf flatsOf (x, p) (predict M u e)
+  pub was-predicted : {w : List Float × List Float} → w ≡ leftFlat x p (predict M u e) → (Done, w) ≡ handed statusOf flatsOf (x, p) (predict M u e)
   unfolding predict
   was-predicted q = λ t. (Done, q t)
 
 -- ---- the two steps by their sizes
 abbrev pub predictBy : (a b q u x p : List Float) → ℕ → ℕ → Outcome Estimate (Unit {0})
-predictBy a b q u x p n i = predict (motionIn n i a b q) (cut i u) (estimateIn n x p)
+predictBy a b q u x p n i = predict (motionFlat n i a b q) (cut i u) (estimateFlat n x p)
 
 abbrev pub updateBy : (h r z x p : List Float) → ℕ → ℕ → Outcome Estimate Vector
-updateBy h r z x p n m = update (sensorIn n m h r) (cut m z) (estimateIn n x p)
+updateBy h r z x p n m = update (sensorFlat n m h r) (cut m z) (estimateFlat n x p)
 
 -- the ways through a step f of the n states and the asked numbers, by its tests: t is that of the sizes
 module _ {R T : Type 0} (tell : Answer R → T) (x p : List Float) (f : ℕ → ℕ → Outcome Estimate R) (n m i asked k : ℕ) where

@@ -23,7 +23,7 @@ use Rattle.matrix.proofs.Results.{done-not-refused, answered-value, refused-num
 use Rattle.filtering.specs.Filter.{Sensor, Estimate, propagated, innovation}
 use Rattle.filtering.specs.Linear.{correction, update}
 use Rattle.filtering.proofs.Shapes.{Way, stopped, went}
-use Rattle.steps.specs.Step.{Rows, updatedIn}
+use Rattle.steps.specs.Step.{Rows, updatedRows}
 use Rattle.steps.specs.Road.{asOne, updatedOf}
 use Rattle.kalman.specs.Record.{flatsOf, flat}
 
@@ -34,12 +34,12 @@ one-number y l = ap (λ (k : ℕ). table k (at y)) (sym l) ∙ table-getD y nan
 -- ---- what is left and told in the numbers x and p of a record
 module _ (x p : List Float) where
   -- by an update of rows, which tells v: by its status
-  pub rows-answered : (a : Rows) {n m : ℕ} {o : Outcome Estimate Vector} {v : VectorResult} {x′ p′ : List Float} {a′ : Rows} → Way n m o → (v, (x′, a′)) ≡ updatedIn x a o
+  pub rows-answered : (a : Rows) {n m : ℕ} {o : Outcome Estimate Vector} {v : VectorResult} {x′ p′ : List Float} {a′ : Rows} → Way n m o → (v, (x′, a′)) ≡ updatedRows x a o
       → v .status ≡ Done → p′ ≡ flatOfRows a′ → (v, (x′, p′)) ≡ handed asVector flatsOf (x, p) o
   rows-answered a (stopped k) g s f = absurd (done-not-refused (sym s ∙ λ t. g t .0 .status))
   rows-answered a (went y e l w) g s f = λ t. (g t .0, (g t .1 .0, (f ∙ λ t. flatOfRows (g t .1 .1)) t))
 
-  pub rows-refused : (a : Rows) {n m k : ℕ} {o : Outcome Estimate Vector} {v : VectorResult} {x′ : List Float} {a′ : Rows} → Way n m o → (v, (x′, a′)) ≡ updatedIn x a o
+  pub rows-refused : (a : Rows) {n m k : ℕ} {o : Outcome Estimate Vector} {v : VectorResult} {x′ : List Float} {a′ : Rows} → Way n m o → (v, (x′, a′)) ≡ updatedRows x a o
       → v .status ≡ Refused k → (v, (x′, p)) ≡ handed asVector flatsOf (x, p) o
   rows-refused a (stopped k) g s = λ t. (g t .0, (g t .1 .0, p))
   rows-refused a (went y e l w) g s = absurd (done-not-refused ((λ t. sym g t .0 .status) ∙ s))

@@ -20,14 +20,14 @@ use Rattle.kalman.specs.declared.Updated.{Updated}
 use Rattle.kalman.specs.declared.UpdatedOne.{UpdatedOne}
 
 -- ---- what the numbers of a record hold: its matrices stand flat
-abbrev pub motionIn : ℕ → ℕ → List Float → List Float → List Float → Motion
-motionIn n i a b q = record { n = n; i = i; a = usedFlat n n a; b = usedFlat n i b; q = usedFlat n n q }
+abbrev pub motionFlat : ℕ → ℕ → List Float → List Float → List Float → Motion
+motionFlat n i a b q = record { n = n; i = i; a = usedFlat n n a; b = usedFlat n i b; q = usedFlat n n q }
 
-abbrev pub sensorIn : ℕ → ℕ → List Float → List Float → Sensor Matrix
-sensorIn n m h r = record { n = n; m = m; h = usedFlat m n h; r = usedFlat m m r }
+abbrev pub sensorFlat : ℕ → ℕ → List Float → List Float → Sensor Matrix
+sensorFlat n m h r = record { n = n; m = m; h = usedFlat m n h; r = usedFlat m m r }
 
-abbrev pub estimateIn : ℕ → List Float → List Float → Estimate
-estimateIn n x p = estimate (cut n x) (usedFlat n n p)
+abbrev pub estimateFlat : ℕ → List Float → List Float → Estimate
+estimateFlat n x p = estimate (cut n x) (usedFlat n n p)
 
 -- a matrix in a record: its rows of four, +0 outside its sizes; an estimate in the numbers x and p
 abbrev pub flat : Matrix → List Float
@@ -37,8 +37,8 @@ abbrev pub flatsOf : Estimate → List Float × List Float
 flatsOf e = (padRow (e .state), flat (e .covariance))
 
 -- an outcome in the numbers x and p, where it leaves an estimate
-abbrev pub leftIn : {R : Type 0} → List Float → List Float → Outcome Estimate R → List Float × List Float
-leftIn x p o = standing flatsOf (x, p) (o .left)
+abbrev pub leftFlat : {R : Type 0} → List Float → List Float → Outcome Estimate R → List Float × List Float
+leftFlat x p o = standing flatsOf (x, p) (o .left)
 
 -- ---- a record of a model and an estimate, and what is given for one in arrays of rows
 abbrev pub recordOf : Motion → Sensor Matrix → Estimate → KalmanFilter
@@ -89,10 +89,10 @@ noFilter = recordOf (record { n = 0; i = 0; a = []; b = []; q = [] }) (record { 
 -- ---- the outcome of each step: 1 where a size does not fit, else that of the filter
 abbrev pub predicting : KalmanFilter → List Float → ℕ → Outcome Estimate (Unit {0})
 predicting f u k =
-    if-fitting (fitting (f .n) (f .m) (f .i) (f .i) k) (predict (motionIn (f .n) (f .i) (f .a) (f .b) (f .q)) (cut (f .i) u) (estimateIn (f .n) (f .x) (f .p)))
+    if-fitting (fitting (f .n) (f .m) (f .i) (f .i) k) (predict (motionFlat (f .n) (f .i) (f .a) (f .b) (f .q)) (cut (f .i) u) (estimateFlat (f .n) (f .x) (f .p)))
 
 abbrev pub updating : KalmanFilter → Vector → ℕ → Outcome Estimate Vector
-updating f z k = if-fitting (fitting (f .n) (f .m) (f .i) (f .m) k) (update (sensorIn (f .n) (f .m) (f .h) (f .r)) z (estimateIn (f .n) (f .x) (f .p)))
+updating f z k = if-fitting (fitting (f .n) (f .m) (f .i) (f .m) k) (update (sensorFlat (f .n) (f .m) (f .h) (f .r)) z (estimateFlat (f .n) (f .x) (f .p)))
 
 -- ---- what each method hands back: its answer, and the filter that it leaves
 abbrev pub stepped : {R : Type 0} → KalmanFilter → Outcome Estimate R → Stepped
@@ -126,5 +126,5 @@ abbrev pub covarianceOf : KalmanFilter → MatrixResult
 covarianceOf f = asMatrix (where-sized (wellSized (f .n) (f .m) (f .i)) (usedFlat (f .n) (f .n) (f .p)))
 
 -- the tracker at its start
-abbrev pub trackerOf : Float → Float → Float → KalmanFilter
-trackerOf t q r = recordOf (trackerMotion t q) (trackerSensor r) atStart
+abbrev pub positionVelocityOf : Float → Float → Float → KalmanFilter
+positionVelocityOf t q r = recordOf (trackerMotion t q) (trackerSensor r) atStart

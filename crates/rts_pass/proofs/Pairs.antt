@@ -13,7 +13,7 @@ use Rattle.algebra.proofs.Arrays.{used-pad, cut-padRow}
 use Rattle.matrix.specs.declared.Size.{Size}
 use Rattle.matrix.specs.Size.{count, front, part}
 use Rattle.filtering.specs.Filter.{Estimate, estimate}
-use Rattle.steps.specs.Step.{Rows, estimateIn, arraysOf}
+use Rattle.steps.specs.Step.{Rows, estimateRows, arraysOf}
 use Rattle.layout.specs.Layout.{matrixAt, vectorIn, matrixIn, joined, placed, putAt, pairLength}
 use Rattle.layout.proofs.Rows.{length-rows, state-placed, covariance-placed}
 use Rattle.layout.proofs.Calls.{vector-used, matrix-used, pair-put}
@@ -45,7 +45,7 @@ module _ (n : Size) (b : List Float) (k : ℕ) (h : k + pairLength (count n) ≤
   covariance-read {size} es e = matrix-used (k + size) b {r = count n} {c = count n} refl refl (omega arith) e ∙ ap (λ (m : ℕ). matrixAt (count n) (count n) b (k + m)) es
 
 -- arrays that were made of a pair hold it
-pub held : (n : Size) {e : Estimate} {x : List Float} {p : Rows} → Paired (count n) e → (x, p) ≡ arraysOf e → estimateIn n x p ≡ e
+pub held : (n : Size) {e : Estimate} {x : List Float} {p : Rows} → Paired (count n) e → (x, p) ≡ arraysOf e → estimateRows n x p ≡ e
 held n {e} h q =
     ap₂ estimate
     (ap (λ (a : List Float × Rows). front n (a .0)) q ∙ cut-padRow (count n) (e .state) (h .state))

@@ -26,13 +26,13 @@ use Rattle.filtering.specs.Filter.{Estimate, propagated, gain, correctedState}
 use Rattle.steps.specs.declared.road.Two.{Two}
 use Rattle.steps.specs.declared.road.Pair.{Pair}
 use Rattle.steps.specs.Road.{matrixOf, estimateOf}
-use Rattle.steps.specs.Step.{Rows, estimateIn, arraysOf}
+use Rattle.steps.specs.Step.{Rows, estimateRows, arraysOf}
 use Rattle.filtering.proofs.Shapes.{shape-gain}
 use Rattle.layout.specs.Layout.{vectorIn, matrixIn, pairLength, stride}
 use Rattle.smoothing.specs.Smoother.{Slot, smoothedState, smoothedCovariance, smoothedPair, smoothSlot}
 use Rattle.smoothing.proofs.Slots.{covariance-propagated, slot-answered, slot-refused}
 use Rattle.rts_pass.specs.Buffer.{pairAt, slotFrom}
-use Rattle.rts_pass.specs.Pass.{slotOf, smoothLeft}
+use Rattle.rts_pass.specs.Pass.{slotOfTwo, smoothLeft}
 use Rattle.rts_pass.proofs.Pairs.{state-read, covariance-read}
 
 -- ---- the slot from number k on of b, of any size: q and w are its predicted covariance and that inverted
@@ -42,7 +42,7 @@ module _ (n : Size) (b : List Float) (k : ℕ) (h : k + stride (count n) ≤ len
   s = slotFrom (count n) b k
 
   abbrev outcome : Status × (List Float × Rows)
-  outcome = smoothLeft arraysOf (x, p) (smoothSlot (count n) (part n n f) s (estimateIn n x p))
+  outcome = smoothLeft arraysOf (x, p) (smoothSlot (count n) (part n n f) s (estimateRows n x p))
 
   -- a pair is as long as the code has it, so the predicted one lies within b
   long : size + size * size ≡ pairLength (count n)
@@ -59,7 +59,7 @@ module _ (n : Size) (b : List Float) (k : ℕ) (h : k + stride (count n) ≤ len
   inverse = ew ∙ ap (λ (A : Matrix). asMatrix (inv (count n) A)) predicted
 
   pub step-refused : {j : ℕ} → w .status ≡ Refused j → (Refused j, (x, p)) ≡ outcome
-  step-refused d = sym (ap (smoothLeft arraysOf (x, p)) (slot-refused (count n) (part n n f) s (estimateIn n x p) (was-refused (inv (count n) (s .predicted .covariance)) inverse d)))
+  step-refused d = sym (ap (smoothLeft arraysOf (x, p)) (slot-refused (count n) (part n n f) s (estimateRows n x p) (was-refused (inv (count n) (s .predicted .covariance)) inverse d)))
 
   -- c, u and v are its filtered covariance, filtered state and predicted state, g its gain, and dx and dp the differences
   pub step-done : {rows c g dp p′ : Rows} {u v dx x′ : List Float} → w .status ≡ Done → rows ≡ w .rows
@@ -88,23 +88,23 @@ module _ (n : Size) (b : List Float) (k : ℕ) (h : k + stride (count n) ≤ len
       let isP : part n n dp ≡ sub N N (part n n p) (s .predicted .covariance) = ap (part n n) edp ∙ used-pad N N _ (shape-sub N N (part n n p) (part n n q)) ∙ ap (sub N N (part n n p)) predicted in
       let state : x′ ≡ padRow (smoothedState N s K (front n x)) = ex ∙ λ i. padRow (correctedState N N (isK i) (isX i) (U i)) in
       let covariance : p′ ≡ pad (smoothedCovariance N s K (part n n p)) = ep ∙ (λ i. pad (propagated N N (isK i) (isP i) (C i))) ∙ ap pad (sym (covariance-propagated N s K (part n n p))) in
-      (λ i. (Done, (state i, covariance i))) ∙ sym (ap (smoothLeft arraysOf (x, p)) (slot-answered N F s (estimateIn n x p) isW))
+      (λ i. (Done, (state i, covariance i))) ∙ sym (ap (smoothLeft arraysOf (x, p)) (slot-answered N F s (estimateRows n x p) isW))
 
 -- ---- the slot of the filtered pair e and the predicted pair y, of two states: r has the inverted predicted covariance
 module _ (e y next : Pair) (f : Two) (r : VectorResult) (er : inRows r ≡ asMatrix (inv 2 (matrixOf (y .p)))) where
   abbrev outcome-two : Status × Estimate
-  outcome-two = smoothLeft (λ s. s) (estimateOf next) (smoothSlot 2 (matrixOf f) (slotOf e y) (estimateOf next))
+  outcome-two = smoothLeft (λ s. s) (estimateOf next) (smoothSlot 2 (matrixOf f) (slotOfTwo e y) (estimateOf next))
 
   pub two-refused : {j : ℕ} → r .status ≡ Refused j → (Refused j, estimateOf next) ≡ outcome-two
-  two-refused d = sym (ap (smoothLeft (λ s. s) (estimateOf next)) (slot-refused 2 (matrixOf f) (slotOf e y) (estimateOf next) (was-refused (inv 2 (matrixOf (y .p))) er d)))
+  two-refused d = sym (ap (smoothLeft (λ s. s) (estimateOf next)) (slot-refused 2 (matrixOf f) (slotOfTwo e y) (estimateOf next) (was-refused (inv 2 (matrixOf (y .p))) er d)))
 
   abbrev inverted : Matrix
   inverted = twoByTwo (at (r .cells) 0) (at (r .cells) 1) (at (r .cells) 2) (at (r .cells) 3)
 
   pub two-done : {G : Matrix} {v : Estimate} → r .status ≡ Done → G ≡ gain 2 2 (matrixOf (e .p)) (matrixOf f) inverted
-      → v ≡ smoothedPair 2 (slotOf e y) G (estimateOf next) → (Done, v) ≡ outcome-two
+      → v ≡ smoothedPair 2 (slotOfTwo e y) G (estimateOf next) → (Done, v) ≡ outcome-two
   unfolding used cut pad
   two-done d eg ev =
       let isW : inv 2 (matrixOf (y .p)) ≡ answered inverted = was-answered (inv 2 (matrixOf (y .p))) (inv-shape 2 (matrixOf (y .p))) er d in
-      (λ i. (Done, (ev ∙ ap (λ (G : Matrix). smoothedPair 2 (slotOf e y) G (estimateOf next)) eg) i))
-      ∙ sym (ap (smoothLeft (λ s. s) (estimateOf next)) (slot-answered 2 (matrixOf f) (slotOf e y) (estimateOf next) isW))
+      (λ i. (Done, (ev ∙ ap (λ (G : Matrix). smoothedPair 2 (slotOfTwo e y) G (estimateOf next)) eg) i))
+      ∙ sym (ap (smoothLeft (λ s. s) (estimateOf next)) (slot-answered 2 (matrixOf f) (slotOfTwo e y) (estimateOf next) isW))

@@ -38,8 +38,8 @@ smoothOf n T c b f o = smoothLeft (λ l. l) o (smoothInto n T c b f o)
 -- ---- its parts, where the sizes are right
 
 -- a slot of two states by its numbers: the filtered pair e and the predicted pair y
-abbrev pub slotOf : Pair → Pair → Slot
-slotOf e y = record { filtered = estimateOf e; predicted = estimateOf y }
+abbrev pub slotOfTwo : Pair → Pair → Slot
+slotOfTwo e y = record { filtered = estimateOf e; predicted = estimateOf y }
 
 -- the pass: its status, and where it is answered the pairs in front of what a buffer held
 pub record Passed (a : Answer (List Estimate)) (before after : List Float) (s : Status) : Type 0 where

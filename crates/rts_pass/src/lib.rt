@@ -7,13 +7,13 @@ ghost use Prim.Native.Nat.{_+_, _*_, _≤_};
 ghost use lib.ListN.{length};
 ghost use Rattle.matrix.specs.Size.{count, part, sized};
 ghost use Rattle.layout.specs.Layout.{matrixAt, placed, pairLength, stride};
-ghost use Rattle.steps.specs.Step.{estimateIn, arraysOf};
+ghost use Rattle.steps.specs.Step.{estimateRows, arraysOf};
 ghost use Rattle.steps.specs.Road.{matrixOf, estimateOf};
 ghost use Rattle.smoothing.specs.Smoother.{smoothedPair, smoothSlot, smoothSlots};
 ghost use Rattle.rts_pass.specs.Buffer.{pairAt, slotFrom, slotsOf, pairNumbers, roomy, counted, buffered};
 ghost use Rattle.smoothing.specs.Demand3.{Demand3};
 ghost use Rattle.rts_pass.specs.Call.{duty, run};
-ghost use Rattle.rts_pass.specs.Pass.{slotOf, smoothable, smoothOf, smoothLeft, Passed};
+ghost use Rattle.rts_pass.specs.Pass.{slotOfTwo, smoothable, smoothOf, smoothLeft, Passed};
 use answer::Status;
 use matrix::Size;
 use matrix::both;
@@ -98,7 +98,7 @@ fn pair_at(b: &[f64], k: usize) -> Pair
 
 // x + G d, and P + (G D) Gᵀ, with d and D the next slot's smoothed pair less the predicted pair y.
 fn corrected_two(e: Pair, y: Pair, g: Two, next: Pair) -> Pair
-    ensures { λ v. ⌜ estimateOf v ≡ smoothedPair 2 (slotOf e y) (matrixOf g) (estimateOf next) ⌝ }
+    ensures { λ v. ⌜ estimateOf v ≡ smoothedPair 2 (slotOfTwo e y) (matrixOf g) (estimateOf next) ⌝ }
 {
     let p = e.p;
     let q = y.p;
@@ -127,7 +127,7 @@ fn corrected_two(e: Pair, y: Pair, g: Two, next: Pair) -> Pair
 
 // The slot of the filtered pair e and the predicted pair y, with the transition f, before a slot whose smoothed pair is next.
 fn smooth_two(e: Pair, y: Pair, f: Two, next: Pair) -> PairSmoothed
-    ensures { λ v. ⌜ (v .answer, estimateOf (v .pair)) ≡ smoothLeft (λ s. s) (estimateOf next) (smoothSlot 2 (matrixOf f) (slotOf e y) (estimateOf next)) ⌝ }
+    ensures { λ v. ⌜ (v .answer, estimateOf (v .pair)) ≡ smoothLeft (λ s. s) (estimateOf next) (smoothSlot 2 (matrixOf f) (slotOfTwo e y) (estimateOf next)) ⌝ }
 {
     let q = y.p;
     let p = e.p;
@@ -170,7 +170,7 @@ fn step<'a>(
     p: &mut [[f64; 4]; 4],
 ) -> Status
     requires { ⌜ k + stride (count n) ≤ length (now slots) ⌝ }
-    ensures { λ t. ⌜ (t, (now (x .exit), now (p .exit))) ≡ smoothLeft arraysOf (now (x .entry), now (p .entry)) (smoothSlot (count n) (part n n (now (f .entry))) (slotFrom (count n) (now (slots .entry)) k) (estimateIn n (now (x .entry)) (now (p .entry)))) ⌝ }
+    ensures { λ t. ⌜ (t, (now (x .exit), now (p .exit))) ≡ smoothLeft arraysOf (now (x .entry), now (p .entry)) (smoothSlot (count n) (part n n (now (f .entry))) (slotFrom (count n) (now (slots .entry)) k) (estimateRows n (now (x .entry)) (now (p .entry)))) ⌝ }
 {
     let size = number(n);
     let predicted = k + (size + size * size);

@@ -19,7 +19,7 @@ use Rattle.algebra.specs.Inverse.{inv}
 use Rattle.inverse.proofs.Results.{padded-is}
 use Rattle.filtering.specs.Filter.{Estimate, propagated, innovation, gain, correctedState, correctedCovariance}
 use Rattle.filtering.specs.Linear.{correction, update}
-use Rattle.steps.specs.Step.{Rows, sensorIn, estimateIn, updatedIn}
+use Rattle.steps.specs.Step.{Rows, sensorRows, estimateRows, updatedRows}
 use Rattle.filtering.proofs.Shapes.{shape-propagated, shape-gain}
 
 -- x, p, h, r and z are the arrays of a state, its covariance, the measurement matrix, its noise and the measurement
@@ -38,16 +38,16 @@ module _ (n m : Size) (x : List Float) (p h r : Rows) (z : List Float) where
   S = propagated (count m) (count n) H P (part m m r)
 
   abbrev pub outcome : Outcome Estimate Vector
-  outcome = update (sensorIn n m h r) (front m z) (estimateIn n x p)
+  outcome = update (sensorRows n m h r) (front m z) (estimateRows n x p)
 
   -- what an update makes of the inverted innovation covariance
   abbrev of : Answer Matrix → VectorResult × (List Float × Rows)
-  of a = updatedIn x p (a else-leave unchanged then correction (sensorIn n m h r) (front m z) (estimateIn n x p))
+  of a = updatedRows x p (a else-leave unchanged then correction (sensorRows n m h r) (front m z) (estimateRows n x p))
 
   pub inversion : {s : Rows} {w : MatrixResult} → s ≡ pad S → w ≡ asMatrix (inv (count m) (part m m s)) → w ≡ asMatrix (inv (count m) S)
   inversion e f = padded-is (inv (count m)) (shape-propagated (count m) (count n) H P (part m m r)) e f
 
-  pub when-refused : {j : ℕ} {v : VectorResult} → inv (count m) S ≡ refused j → v ≡ asVector (refused j) → (v, (x, p)) ≡ updatedIn x p outcome
+  pub when-refused : {j : ℕ} {v : VectorResult} → inv (count m) S ≡ refused j → v ≡ asVector (refused j) → (v, (x, p)) ≡ updatedRows x p outcome
   unfolding update
   when-refused {j} {v} q e = (λ i. (e i, (x, p))) ∙ sym (ap of q)
 
@@ -57,7 +57,7 @@ module _ (n m : Size) (x : List Float) (p h r : Rows) (z : List Float) where
       → x′ ≡ padRow (correctedState (count n) (count m) (part n m k) (front m y) X)
       → p′ ≡ pad (correctedCovariance (count n) (count m) (part n m k) H P)
       → v ≡ vectorResult Done y
-      → (v, (x′, p′)) ≡ updatedIn x p outcome
+      → (v, (x′, p′)) ≡ updatedRows x p outcome
   unfolding update correction innovation
   when-answered {W} {v} {y} {x′} {k} {p′} q ey ek ex ep ev =
       let Y = innovation (count m) (count n) H X (front m z) in

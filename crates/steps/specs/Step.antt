@@ -28,22 +28,22 @@ unfoldable pub fitting : ℕ → ℕ → ℕ → ℕ → ℕ → Bool
 fitting n m i asked k = wellSized n m i && eqb asked k
 
 -- ---- what the arrays hold, for n states, i inputs and m measurements
-abbrev pub motionIn : Size → Size → Rows → Rows → Rows → Motion
-motionIn n i a b q = record { n = count n; i = count i; a = part n n a; b = part n i b; q = part n n q }
+abbrev pub motionRows : Size → Size → Rows → Rows → Rows → Motion
+motionRows n i a b q = record { n = count n; i = count i; a = part n n a; b = part n i b; q = part n n q }
 
-abbrev pub sensorIn : Size → Size → Rows → Rows → Sensor Matrix
-sensorIn n m h r = record { n = count n; m = count m; h = part m n h; r = part m m r }
+abbrev pub sensorRows : Size → Size → Rows → Rows → Sensor Matrix
+sensorRows n m h r = record { n = count n; m = count m; h = part m n h; r = part m m r }
 
-abbrev pub estimateIn : Size → List Float → Rows → Estimate
-estimateIn n x p = estimate (front n x) (part n n p)
+abbrev pub estimateRows : Size → List Float → Rows → Estimate
+estimateRows n x p = estimate (front n x) (part n n p)
 
 -- ---- an outcome in the arrays x and p, where it leaves an estimate
 
 abbrev pub arraysOf : Estimate → List Float × Rows
 arraysOf e = (padRow (e .state), pad (e .covariance))
 
-abbrev pub leftIn : {R : Type 0} → List Float → Rows → Outcome Estimate R → List Float × Rows
-leftIn x p o = standing arraysOf (x, p) (o .left)
+abbrev pub leftRows : {R : Type 0} → List Float → Rows → Outcome Estimate R → List Float × Rows
+leftRows x p o = standing arraysOf (x, p) (o .left)
 
-abbrev pub updatedIn : List Float → Rows → Outcome Estimate Vector → VectorResult × (List Float × Rows)
-updatedIn x p o = handed asVector arraysOf (x, p) o
+abbrev pub updatedRows : List Float → Rows → Outcome Estimate Vector → VectorResult × (List Float × Rows)
+updatedRows x p o = handed asVector arraysOf (x, p) o

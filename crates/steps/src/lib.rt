@@ -7,7 +7,7 @@ ghost use Rattle.algebra.specs.Array.{padRow, pad};
 ghost use Rattle.matrix.specs.Size.{count, front, part};
 ghost use Rattle.filtering.specs.Filter.{predictedState, propagated as propagatedOf, innovation as innovationOf, gain as gainOf, correctedState, correctedCovariance};
 ghost use Rattle.filtering.specs.Linear.{predict as predictOf, update as updateOf};
-ghost use Rattle.steps.specs.Step.{wellSized, fitting, motionIn, sensorIn, estimateIn, leftIn, updatedIn};
+ghost use Rattle.steps.specs.Step.{wellSized, fitting, motionRows, sensorRows, estimateRows, leftRows, updatedRows};
 use answer::Status;
 use matrix::Size;
 use matrix::VectorResult;
@@ -47,7 +47,7 @@ pub fn predicted_state<'a>(
     n: Size,
     i: Size,
 ) -> [f64; 4]
-    ensures { λ v. ⌜ v ≡ padRow (predictedState (motionIn n i (now (a .entry)) (now (b .entry)) []) (front i (now (u .entry))) (front n (now (x .entry)))) ⌝ }
+    ensures { λ v. ⌜ v ≡ padRow (predictedState (motionRows n i (now (a .entry)) (now (b .entry)) []) (front i (now (u .entry))) (front n (now (x .entry)))) ⌝ }
 {
     let ax = kernel::row_product_transposed(*x, a, n);
     let bu = kernel::row_product_transposed(*u, b, i);
@@ -155,7 +155,7 @@ pub fn predict<'a>(
     x: &mut [f64; 4],
     p: &mut [[f64; 4]; 4],
 )
-    ensures { λ r. ⌜ (now (x .exit), now (p .exit)) ≡ leftIn (now (x .entry)) (now (p .entry)) (predictOf (motionIn n i (now (a .entry)) (now (b .entry)) (now (q .entry))) (front i (now (u .entry))) (estimateIn n (now (x .entry)) (now (p .entry)))) ⌝ }
+    ensures { λ r. ⌜ (now (x .exit), now (p .exit)) ≡ leftRows (now (x .entry)) (now (p .entry)) (predictOf (motionRows n i (now (a .entry)) (now (b .entry)) (now (q .entry))) (front i (now (u .entry))) (estimateRows n (now (x .entry)) (now (p .entry)))) ⌝ }
 {
     *x = predicted_state(a, b, x, u, n, i);
     *p = propagated(a, p, q, n, n);
@@ -172,7 +172,7 @@ pub fn update<'a>(
     x: &mut [f64; 4],
     p: &mut [[f64; 4]; 4],
 ) -> VectorResult
-    ensures { λ v. ⌜ (v, (now (x .exit), now (p .exit))) ≡ updatedIn (now (x .entry)) (now (p .entry)) (updateOf (sensorIn n m (now (h .entry)) (now (r .entry))) (front m (now (z .entry))) (estimateIn n (now (x .entry)) (now (p .entry)))) ⌝ }
+    ensures { λ v. ⌜ (v, (now (x .exit), now (p .exit))) ≡ updatedRows (now (x .entry)) (now (p .entry)) (updateOf (sensorRows n m (now (h .entry)) (now (r .entry))) (front m (now (z .entry))) (estimateRows n (now (x .entry)) (now (p .entry)))) ⌝ }
 {
     let s = propagated(h, p, r, m, n);
     let w = inverse::inverse_of(&s, m);

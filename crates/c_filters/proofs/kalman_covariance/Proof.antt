@@ -10,7 +10,7 @@ use lib.Ieee.{Float}
 use borrow.Author.Tests.{eq-eqb, ne-eqb}
 use Rattle.answer.specs.Told.{given}
 use Rattle.answer.specs.Answer.{where-sized}
-use Rattle.c_filters.specs.Filter.{estimateFrom, isFilter, isStep}
+use Rattle.c_filters.specs.Filter.{estimatePlace, isFilter, isStep}
 use borrow.Author.Needs.{needs}
 use Rattle.c_filters.proofs.Filters.{Whole, whole-of, and-tested, and-failed, copied}
 use Rattle.c_filters.proofs.kalman_covariance.Statement.{statement}
@@ -21,7 +21,7 @@ test c = whole-of _ _ _ _ (sym (c .before .is-filter .ensures) ∙ c .if1 .taken
 
 -- by the test of the sizes
 abbrev by : ℕ → ℕ → ℕ → List Float → List Float → Bool → ℕ × List Float
-by n m i f o b = given o (where-sized b (take (n * n) (drop (estimateFrom n m i + n) f)))
+by n m i f o b = given o (where-sized b (take (n * n) (drop (estimatePlace n m i + n) f)))
 
 returns : tie.Need-returns
 unfolding isStep
@@ -32,7 +32,7 @@ returns c =
     let t = u .before in
     let a = t .before .before .before .before .args in
     let s = test t in
-    let is = copied {k = estimateFrom (a .n) (a .m) (a .i) + a .n} (a .filter .now) (a .out .now) (omega (arith, k .estimate-from .ensures)) (u .if2 .taken) (omega (arith, s .long)) (put .put-slice .ensures) in
+    let is = copied {k = estimatePlace (a .n) (a .m) (a .i) + a .n} (a .filter .now) (a .out .now) (omega (arith, k .estimate-place .ensures)) (u .if2 .taken) (omega (arith, s .long)) (put .put-slice .ensures) in
     (λ j. (0, is j))
     ∙ ap (by (a .n) (a .m) (a .i) (a .filter .now) (a .out .now))
     (sym (sym (and-tested (isFilter (a .n) (a .m) (a .i) (length (a .filter .now))) (eqb (length (a .out .now)) (a .n * a .n)) (t .before .is-filter .ensures) (t .if1 .taken) refl) ∙ eq-eqb _ _ (u .if2 .taken)))
@@ -56,9 +56,9 @@ pub kalman-covariance-spec : {M : Type 1} → statement M
 kalman-covariance-spec =
     tie.close
     (tie.spec (λ c κs. search needs) (λ c. omega (arith, test c .few)) (λ c κs. test (c .before) .sizes)
-    (λ c. omega (arith, test (c .before .before) .few, c .estimate-from .ensures)) (λ c. search needs)
-    (λ c. omega (arith, test (c .before .before) .few, c .estimate-from .ensures))
-    (λ c. omega (arith, test (c .before .before .before) .few, c .before .estimate-from .ensures))
+    (λ c. omega (arith, test (c .before .before) .few, c .estimate-place .ensures)) (λ c. search needs)
+    (λ c. omega (arith, test (c .before .before) .few, c .estimate-place .ensures))
+    (λ c. omega (arith, test (c .before .before .before) .few, c .before .estimate-place .ensures))
     (λ c. search needs) (λ c. search needs)
-    (λ c. omega (arith, test (c .before .before .before) .long, c .before .estimate-from .ensures))
+    (λ c. omega (arith, test (c .before .before .before) .long, c .before .estimate-place .ensures))
     (λ c κs. search needs) (λ c. search needs) returns returns-2 returns-3)

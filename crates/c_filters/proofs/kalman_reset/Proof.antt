@@ -13,7 +13,7 @@ use Rattle.answer.specs.Answer.{where-sized}
 use Rattle.layout.specs.Layout.{placed}
 use Rattle.layout.proofs.Places.{then-placed}
 use Rattle.layout.proofs.Calls.{slice-put}
-use Rattle.c_filters.specs.Filter.{estimateFrom, isStep, isStepWith}
+use Rattle.c_filters.specs.Filter.{estimatePlace, isStep, isStepWith}
 use borrow.Author.Needs.{needs}
 use Rattle.c_filters.proofs.Filters.{Step, step-of, and-tested, and-failed}
 use Rattle.c_filters.proofs.kalman_reset.Statement.{statement}
@@ -24,7 +24,7 @@ test c = step-of _ _ _ _ _ _ (sym (c .before .is-step .ensures) ∙ c .if1 .take
 
 -- by the test of the sizes
 abbrev by : ℕ → ℕ → ℕ → List Float → List Float → List Float → Bool → ℕ × List Float
-by n m i f x p b = given f (where-sized b (placed (estimateFrom n m i) (x ++ p) f))
+by n m i f x p b = given f (where-sized b (placed (estimatePlace n m i) (x ++ p) f))
 
 returns : tie.Need-returns
 unfolding isStepWith
@@ -36,7 +36,7 @@ returns c =
     let t = u .before in
     let a = t .before .before .before .before .before .args in
     let s = test t in
-    let from = k .estimate-from .ensures .0 in
+    let from = k .estimate-place .ensures .0 in
     let is = then-placed (a .x0 .now) (a .p0 .now) (a .filter .now) (omega (arith, s .whole .long, from)) (omega (arith, s .same))
     (slice-put _ (a .filter .now) (a .x0 .now) (omega (arith, s .same, s .whole .long, from)) (one .put-slice .ensures))
     (slice-put _ _ (a .p0 .now) (omega (arith, u .if2 .taken, s .whole .long, from, one .put-slice .kept .0)) (two .put-slice2 .ensures))
@@ -65,5 +65,5 @@ kalman-reset-spec =
     tie.close
     (tie.spec (λ c κs. search needs) (λ c. omega (arith, test c .whole .few)) (λ c κs. test (c .before) .whole .sizes)
     (λ c κs. search needs)
-    (λ c. let k = c .before .before .before .before .before in omega (arith, test (k .before .before) .whole .few, k .estimate-from .ensures))
+    (λ c. let k = c .before .before .before .before .before in omega (arith, test (k .before .before) .whole .few, k .estimate-place .ensures))
     (λ c κs. search needs) (λ c. search needs) returns returns-2 returns-3)

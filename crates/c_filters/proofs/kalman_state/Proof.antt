@@ -8,7 +8,7 @@ use lib.ListN.{length, take, drop}
 use lib.Ieee.{Float}
 use Rattle.answer.specs.Told.{given}
 use Rattle.answer.specs.Answer.{where-sized}
-use Rattle.c_filters.specs.Filter.{estimateFrom}
+use Rattle.c_filters.specs.Filter.{estimatePlace}
 use borrow.Author.Needs.{needs}
 use Rattle.c_filters.proofs.Filters.{Step, step-of, copied}
 use Rattle.c_filters.proofs.kalman_state.Statement.{statement}
@@ -19,7 +19,7 @@ test c = step-of _ _ _ _ _ _ (sym (c .before .is-step .ensures) ∙ c .if1 .take
 
 -- by the test of the sizes
 abbrev by : ℕ → ℕ → ℕ → List Float → List Float → Bool → ℕ × List Float
-by n m i f o b = given o (where-sized b (take n (drop (estimateFrom n m i) f)))
+by n m i f o b = given o (where-sized b (take n (drop (estimatePlace n m i) f)))
 
 returns : tie.Need-returns
 returns c =
@@ -28,7 +28,7 @@ returns c =
     let t = k .before in
     let a = t .before .before .before .before .args in
     let s = test t in
-    let is = copied (a .filter .now) (a .out .now) (k .estimate-from .ensures .0) (s .same) (omega (arith, s .whole .long)) (put .put-slice .ensures) in
+    let is = copied (a .filter .now) (a .out .now) (k .estimate-place .ensures .0) (s .same) (omega (arith, s .whole .long)) (put .put-slice .ensures) in
     (λ j. (0, is j)) ∙ ap (by (a .n) (a .m) (a .i) (a .filter .now) (a .out .now)) (sym (sym (t .before .is-step .ensures) ∙ t .if1 .taken))
 
 returns-2 : tie.Need-returns-2
@@ -38,7 +38,7 @@ pub kalman-state-spec : {M : Type 1} → statement M
 kalman-state-spec =
     tie.close
     (tie.spec (λ c κs. search needs) (λ c κs. test c .whole .sizes)
-    (λ c. omega (arith, test (c .before) .whole .few, c .estimate-from .ensures))
+    (λ c. omega (arith, test (c .before) .whole .few, c .estimate-place .ensures))
     (λ c. search needs) (λ c. search needs) (λ c. search needs)
-    (λ c. omega (arith, test (c .before .before) .whole .long, c .before .estimate-from .ensures))
+    (λ c. omega (arith, test (c .before .before) .whole .long, c .before .estimate-place .ensures))
     (λ c κs. search needs) (λ c. search needs) returns returns-2)

@@ -39,7 +39,7 @@ returns c =
     let t = k .before in
     let g = t .before .before .before .before .args in
     let s = test t in
-    let is = predicts (g .n) (g .m) (g .i) (g .filter .now) (s .whole) (sn .size-of .ensures) refl (si .size-of2 .ensures) (k .estimate-from .ensures .0) (g .u .now) (s .same)
+    let is = predicts (g .n) (g .m) (g .i) (g .filter .now) (s .whole) (sn .size-of .ensures) refl (si .size-of2 .ensures) (k .estimate-place .ensures .0) (g .u .now) (s .same)
     (a .matrix-at .ensures) (b .matrix-at2 .ensures) (q .matrix-at3 .ensures) (v .vector-at .ensures) (x .vector-at2 .ensures) (p .matrix-at4 .ensures) (step .predict .ensures) (put .put-pair .ensures) in
     (λ j. (0, is j)) ∙ ap (by (g .n) (g .m) (g .i) (g .filter .now) (g .u .now)) (sym (sym (t .before .is-step .ensures) ∙ t .if1 .taken))
 
@@ -53,5 +53,5 @@ predict-rows-spec =
     (λ c κs. search needs) (λ c κs. search needs) (λ c κs. search needs) (λ c. search needs) (λ c κs. search needs)
     (λ c. search needs) (λ c. search needs) (λ c. search needs) (λ c. search needs) (λ c. search needs)
     (λ c κs. search needs) (λ c κs. search needs) (λ c κs. search needs)
-    (λ c. let k = c .before .before .before .before .before .before .before .before .before .before .before .before in omega (arith, test (k .before) .whole .few, k .estimate-from .ensures))
+    (λ c. let k = c .before .before .before .before .before .before .before .before .before .before .before .before in omega (arith, test (k .before) .whole .few, k .estimate-place .ensures))
     (λ c κs. search needs) (λ c κs. search needs) (λ c κs. search needs) (λ c. search needs) returns returns-2)

@@ -59,7 +59,7 @@ returns c =
     let t = k .before in
     let g = t .before .before .before .before .before .before .args in
     let s = test t in
-    updates (g .n) (g .m) (g .i) (g .filter .now) (s .whole) (sn .size-of .ensures) (sm .size-of2 .ensures) refl (k .estimate-from .ensures .0) (g .z .now) (s .same)
+    updates (g .n) (g .m) (g .i) (g .filter .now) (s .whole) (sn .size-of .ensures) (sm .size-of2 .ensures) refl (k .estimate-place .ensures .0) (g .z .now) (s .same)
     (h .matrix-at .ensures) (r .matrix-at2 .ensures) (v .vector-at .ensures) (x .vector-at2 .ensures) (p .matrix-at3 .ensures) (step .update .ensures) (g .innovation .now) (room t) (told .enum-told .given .1)
     (put .put-pair .ensures) (vec .put-vector .ensures)
     ∙ ap (by (g .n) (g .m) (g .i) (g .filter .now) (g .z .now) (g .innovation .now)) (sym (passed t))
@@ -79,7 +79,7 @@ returns-2 c =
     let t = k .before in
     let g = t .before .before .before .before .before .before .args in
     let s = test t in
-    refuses (g .n) (g .m) (g .i) (g .filter .now) (s .whole) (sn .size-of .ensures) (sm .size-of2 .ensures) refl (k .estimate-from .ensures .0) (g .z .now) (s .same)
+    refuses (g .n) (g .m) (g .i) (g .filter .now) (s .whole) (sn .size-of .ensures) (sm .size-of2 .ensures) refl (k .estimate-place .ensures .0) (g .z .now) (s .same)
     (h .matrix-at .ensures) (r .matrix-at2 .ensures) (v .vector-at .ensures) (x .vector-at2 .ensures) (p .matrix-at3 .ensures) (step .update .ensures) (g .innovation .now) (told .status .given .1)
     ∙ ap (by (g .n) (g .m) (g .i) (g .filter .now) (g .z .now) (g .innovation .now)) (sym (passed t))
 
@@ -96,6 +96,6 @@ update-rows-spec =
     (λ c κs. search needs) (λ c. search needs) (λ c. search needs) (λ c. search needs) (λ c. search needs)
     (λ c. search needs) (λ c. search needs) (λ c. search needs) (λ c κs. search needs) (λ c κs. search needs)
     (λ c κs. search needs)
-    (λ c. let k = c .before .before .before .before .before .before .before .before .before .before in omega (arith, test (k .before) .whole .few, k .estimate-from .ensures))
+    (λ c. let k = c .before .before .before .before .before .before .before .before .before .before in omega (arith, test (k .before) .whole .few, k .estimate-place .ensures))
     (λ c κs. search needs) (λ c κs. search needs) (λ c. search needs) (λ c κs. search needs) (λ c κs. search needs)
     (λ c. search needs) (λ c. search needs) (λ c. search needs) returns (λ c. search needs) returns-2 returns-3)

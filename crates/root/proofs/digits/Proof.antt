@@ -7,13 +7,13 @@ use native.Mathlib.Omega.{arith}
 use borrow.Author.Needs.{needs}
 use lib.Pow.{pow-mono}
 use Rattle.root.specs.Weights.{past53, past54}
-use Rattle.root.specs.Part.{total}
+use Rattle.root.specs.Part.{radicand}
 use Rattle.root.proofs.Whole.{isqrt-of}
 use Rattle.root.proofs.digits.Statement.{statement}
 use Rattle.root.proofs.digits.Tie as tie
 
 abbrev Inv-loop : tie.InvT-loop
-Inv-loop m p₀ i₀ p i = (i ≤ 54) × (p .root < 2 ^ i) × (p .rest ≤ p .root + p .root) × (p .left < past54) × (total p ≡ m * 4 ^ i)
+Inv-loop m p₀ i₀ p i = (i ≤ 54) × (p .root < 2 ^ i) × (p .rest ≤ p .root + p .root) × (p .left < past54) × (radicand p ≡ m * 4 ^ i)
 
 abbrev μ-loop : tie.MeasureT-loop
 μ-loop m p₀ i₀ p i = 54 - i
@@ -48,7 +48,7 @@ loop-again c =
     let p = c .before .before .loop .p in
     let r = c .digit .result in
     let i = c .before .before .loop .i in
-    (search needs, doubled (p .root) (r .root) i (v .1) (s .root-le), s .rest-le, s .left-lt, times-four (c .before .before .before .args .m) i (total r) (total p) (s .grown) (v .4))
+    (search needs, doubled (p .root) (r .root) i (v .1) (s .root-le), s .rest-le, s .left-lt, times-four (c .before .before .before .args .m) i (radicand r) (radicand p) (s .grown) (v .4))
 
 returns : tie.Need-returns Inv-loop μ-loop
 returns c =
@@ -56,7 +56,7 @@ returns c =
     let p = c .before .loop .p in
     let m = c .before .before .args .m in
     isqrt-of 54 (m * past54) (p .root) (p .rest) (bounded m (c .before .before .pre))
-    (all-used m (p .root * p .root + p .rest) (p .left) (v .3) (at-end m (c .before .loop .i) (total p) (v .0) (c .loop-test .left) (v .4)))
+    (all-used m (p .root * p .root + p .rest) (p .left) (v .3) (at-end m (c .before .loop .i) (radicand p) (v .0) (c .loop-test .left) (v .4)))
     (v .2)
 
 pub digits-spec : {M : Type 1} → statement M

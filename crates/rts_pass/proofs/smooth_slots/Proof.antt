@@ -7,7 +7,7 @@ use borrow.Author.Needs.{needs}
 use Rattle.algebra.specs.Array.{used}
 use Rattle.matrix.specs.Size.{count, part}
 use Rattle.filtering.specs.Filter.{Estimate, estimate}
-use Rattle.steps.specs.Step.{estimateIn, arraysOf}
+use Rattle.steps.specs.Step.{estimateRows, arraysOf}
 use Rattle.layout.specs.Layout.{pairLength, stride}
 use Rattle.layout.proofs.Calls.{few}
 use Rattle.smoothing.specs.Smoother.{smoothSlots}
@@ -20,7 +20,7 @@ use Rattle.rts_pass.proofs.smooth_slots.Statement.{statement}
 use Rattle.rts_pass.proofs.smooth_slots.Tie as tie
 
 abbrev Inv-loop : tie.InvT-loop
-Inv-loop slots n stored f out₀ size pair stride k₀ x₀ p₀ out k x p = Going (count n) (part n n f) slots stored out₀ k (estimateIn n x p) out
+Inv-loop slots n stored f out₀ size pair stride k₀ x₀ p₀ out k x p = Going (count n) (part n n f) slots stored out₀ k (estimateRows n x p) out
 
 abbrev μ-loop : tie.MeasureT-loop
 μ-loop slots n stored f out₀ size pair stride k₀ x₀ p₀ out k x p = k

@@ -7,7 +7,7 @@ use Rattle.answer.specs.Answer.{answered}
 use Rattle.algebra.specs.Array.{cut, used}
 use Rattle.steps.specs.Road.{estimateOf}
 use Rattle.rts_pass.specs.Buffer.{slotFrom, slotAt}
-use Rattle.rts_pass.specs.Pass.{slotOf}
+use Rattle.rts_pass.specs.Pass.{slotOfTwo}
 use Rattle.rts_pass.proofs.Passes.{left-done, left-refused, Going, going-start, going-room, going-more, going-stop, going-done}
 use Rattle.rts_pass.proofs.smooth_slots_two.Statement.{statement}
 use Rattle.rts_pass.proofs.smooth_slots_two.Tie as tie
@@ -27,7 +27,7 @@ put-two-requires c κs = going-room _ _ _ _ (c .before .before .loop .inv)
 -- the slot before slot k, as it is read
 slot-read : (c : tie.After-pair-at3 Inv-loop μ-loop)
     → let l = c .before .before .before .before .before .before .before in
-    slotOf (c .before .pair-at2 .result) (c .pair-at3 .result) ≡ slotAt 2 (l .before .before .before .before .before .before .before .before .args .slots .now) (l .loop .k - 1)
+    slotOfTwo (c .before .pair-at2 .result) (c .pair-at3 .result) ≡ slotAt 2 (l .before .before .before .before .before .before .before .before .args .slots .now) (l .loop .k - 1)
 unfolding slotFrom
 slot-read c = λ i. record { filtered = c .before .pair-at2 .ensures i; predicted = c .pair-at3 .ensures i }
 

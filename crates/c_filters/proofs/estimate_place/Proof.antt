@@ -1,8 +1,8 @@
--- `estimate_from` meets its contract: the sum of five products.
+-- `estimate_place` meets its contract: the sum of five products.
 use native.Mathlib.Omega.{arith}
 use Rattle.c_filters.proofs.Filters.{Few, few-of}
-use Rattle.c_filters.proofs.estimate_from.Statement.{statement}
-use Rattle.c_filters.proofs.estimate_from.Tie as tie
+use Rattle.c_filters.proofs.estimate_place.Statement.{statement}
+use Rattle.c_filters.proofs.estimate_place.Tie as tie
 
 few : (c : tie.Start) → Few (c .args .n) (c .args .m) (c .args .i)
 few c = few-of _ _ _ (c .pre)
@@ -10,8 +10,8 @@ few c = few-of _ _ _ (c .pre)
 returns : tie.Need-returns
 returns c = (omega arith, omega (arith, few c))
 
-pub estimate-from-spec : {M : Type 1} → statement M
-estimate-from-spec =
+pub estimate-place-spec : {M : Type 1} → statement M
+estimate-place-spec =
     tie.close
     (tie.spec (λ c. omega (arith, few c)) (λ c. omega (arith, few c)) (λ c. omega (arith, few c)) (λ c. omega (arith, few c))
     (λ c. omega (arith, few c)) (λ c. omega (arith, few c)) (λ c. omega (arith, few c)) (λ c. omega (arith, few c))
