@@ -33,17 +33,17 @@ module _ (r c : Size) where
   read f e = ap (part r c) e ∙ used-rowsOfFlat (count r) (count c) f (bounds r .most) (bounds c .most)
 
 pub read-motion : (n i : Size) (a b q : List Float) {A B Q : Step.Rows} → A ≡ rowsOfFlat a → B ≡ rowsOfFlat b → Q ≡ rowsOfFlat q
-    → Step.motionFlat n i A B Q ≡ motionFlat (count n) (count i) a b q
+    → Step.motionRows n i A B Q ≡ motionFlat (count n) (count i) a b q
 read-motion n i a b q ea eb ed = λ k. record { n = count n; i = count i; a = read n n a ea k; b = read n i b eb k; q = read n n q ed k }
 
-read-sensor : (n m : Size) (h r : List Float) {H R : Step.Rows} → H ≡ rowsOfFlat h → R ≡ rowsOfFlat r → Step.sensorFlat n m H R ≡ sensorFlat (count n) (count m) h r
+read-sensor : (n m : Size) (h r : List Float) {H R : Step.Rows} → H ≡ rowsOfFlat h → R ≡ rowsOfFlat r → Step.sensorRows n m H R ≡ sensorFlat (count n) (count m) h r
 read-sensor n m h r eh er = λ k. record { n = count n; m = count m; h = read m n h eh k; r = read m m r er k }
 
-pub read-estimate : (n : Size) (x p : List Float) {P : Step.Rows} → P ≡ rowsOfFlat p → Step.estimateFlat n x P ≡ estimateFlat (count n) x p
+pub read-estimate : (n : Size) (x p : List Float) {P : Step.Rows} → P ≡ rowsOfFlat p → Step.estimateRows n x P ≡ estimateFlat (count n) x p
 read-estimate n x p e = λ k. estimate (cut (count n) x) (read n n p e k)
 
 pub read-update : (n m : Size) (h r z x p : List Float) {H R P : Step.Rows} {y : VectorResult × (List Float × Step.Rows)} → H ≡ rowsOfFlat h → R ≡ rowsOfFlat r → P ≡ rowsOfFlat p
-    → y ≡ Step.updatedRows x P (update (Step.sensorFlat n m H R) (front m z) (Step.estimateFlat n x P))
+    → y ≡ Step.updatedRows x P (update (Step.sensorRows n m H R) (front m z) (Step.estimateRows n x P))
     → y ≡ Step.updatedRows x P (update (sensorFlat (count n) (count m) h r) (front m z) (estimateFlat (count n) x p))
 read-update n m h r z x p {H} {R} {P} eh er ep g = g ∙ λ k. Step.updatedRows x P (update (read-sensor n m h r eh er k) (front m z) (read-estimate n x p ep k))
 
@@ -54,7 +54,7 @@ road-update h r z x p d g = g ∙ λ k. updatedOf (d k) (update (sensorFlat 2 1 
 
 -- ---- a prediction on rows, and of one road
 module _ (M : Motion) (u : Vector) (e : Estimate) (x p : List Float) where
-  pub rows-predicted : (a : Step.Rows) {x′ p′ : List Float} {a′ : Step.Rows} → (x′, a′) ≡ Step.leftFlat x a (predict M u e) → p′ ≡ flatOfRows a′ → (x′, p′) ≡ leftFlat x p (predict M u e)
+  pub rows-predicted : (a : Step.Rows) {x′ p′ : List Float} {a′ : Step.Rows} → (x′, a′) ≡ Step.leftRows x a (predict M u e) → p′ ≡ flatOfRows a′ → (x′, p′) ≡ leftFlat x p (predict M u e)
   unfolding predict
   rows-predicted a g f = λ t. (g t .0, (f ∙ λ t. flatOfRows (g t .1)) t)
 

@@ -1,9 +1,8 @@
 -- Outcomes made in steps: what is known of the steps is known of the whole. Assumes nothing.
 use mathlib.Core.Path.{_≡_, refl, sym, subst}
-use Prim.Native.Nat.{ℕ}
 use Rattle.answer.specs.Answer.{Answer, refused, answered}
 use Rattle.answer.specs.Outcome.{Left, unchanged, this, Outcome, final, later, onward}
-use Rattle.answer.proofs.Answers.{Told, number, result, result-of}
+use Rattle.answer.proofs.Answers.{Told, number, result-of}
 
 module _ {S : Type 0} where
   -- from s: where something is told, it and what is there in the end have P

@@ -7,7 +7,7 @@ use lib.Ieee.{Float}
 use Rattle.answer.specs.Answer.{Answer, refused, answered, and-then, mapped, refused-if}
 use Rattle.scalar.specs.Number as Number
 use Rattle.answer.specs.Table.{padTo}
-use Rattle.answer.specs.Outcome.{Outcome, onward}
+use Rattle.answer.specs.Outcome.{onward}
 use Rattle.algebra.specs.Matrix as Matrix
 use Rattle.algebra.specs.Inverse as Inverse
 use Rattle.algebra.specs.Cholesky as Cholesky
