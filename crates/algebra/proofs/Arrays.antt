@@ -8,7 +8,7 @@ use lib.ListN.{length, getD, set, replicate, length-map}
 use lib.Ieee.{Float, nan}
 use Rattle.scalar.specs.Number.{_⊗_, +0, one, _⊕_, _⊖_}
 use Rattle.answer.specs.Table.{table, padTo}
-use Rattle.algebra.specs.Matrix.{Vector, Matrix, at, row, cell, mat, sum, mul, matvec, transpose, add, identity, sub}
+use Rattle.algebra.specs.Matrix.{Vector, Matrix, at, row, cell, mat, sumOf, mul, matvec, transpose, add, identity, sub}
 use Rattle.algebra.specs.Array.{cut, used, padRow, pad, flatOfRows, rowsOfFlat, usedFlat}
 use Rattle.answer.proofs.Tables.{length-table, getD-table, table-ext, table-getD, getD-padTo, map-table, Filling, filling-none, filling-more, filling-all, set-padTo}
 use Rattle.algebra.proofs.Matrices.{sum-ext, Shape, shape-mat, cell-mat, mul-ext, matvec-ext, transpose-ext, both-ext, mat-ext}
@@ -64,11 +64,11 @@ used-pad r c A s =
     ∙ table-getD A []
 
 -- ---- the used parts: their cells are those that the code reads
-pub mul-used : (r k c : ℕ) (a b : List (List Float)) → mul r k c (used r k a) (used k c b) ≡ mat r c (λ i j. sum k (λ t. cell a i t ⊗ cell b t j))
+pub mul-used : (r k c : ℕ) (a b : List (List Float)) → mul r k c (used r k a) (used k c b) ≡ mat r c (λ i j. sumOf k (λ t. cell a i t ⊗ cell b t j))
 unfolding mul
 mul-used r k c a b = mul-ext r k c (used r k a) (used k c b) a b (λ i t h g. cell-used r k a i t h g) (λ t j h g. cell-used k c b t j h g)
 
-pub matvec-used : (r c : ℕ) (a : List (List Float)) (v : List Float) → matvec r c (used r c a) (cut c v) ≡ table r (λ i. sum c (λ j. cell a i j ⊗ at v j))
+pub matvec-used : (r c : ℕ) (a : List (List Float)) (v : List Float) → matvec r c (used r c a) (cut c v) ≡ table r (λ i. sumOf c (λ j. cell a i j ⊗ at v j))
 unfolding matvec
 matvec-used r c a v = matvec-ext r c (used r c a) a (cut c v) v (λ i j h g. cell-used r c a i j h g) (λ j h. at-cut c v j h)
 
@@ -81,10 +81,10 @@ pub both-used : (f : Float → Float → Float) (r c : ℕ) (a b : List (List Fl
 both-used f r c a b = both-ext f r c (used r c a) (used r c b) a b (λ i j h g. cell-used r c a i j h g) (λ i j h g. cell-used r c b i j h g)
 
 -- a times v is v times transposed a: a product does not depend on the order of its factors
-pub matvec-transposed-used : (r c : ℕ) (a : List (List Float)) (v : List Float) → matvec r c (used r c a) (cut c v) ≡ table r (λ i. sum c (λ t. at v t ⊗ cell a i t))
+pub matvec-transposed-used : (r c : ℕ) (a : List (List Float)) (v : List Float) → matvec r c (used r c a) (cut c v) ≡ table r (λ i. sumOf c (λ t. at v t ⊗ cell a i t))
 matvec-transposed-used r c a v =
     matvec-used r c a v
-    ∙ table-ext r (λ i. sum c (λ t. cell a i t ⊗ at v t)) (λ i. sum c (λ t. at v t ⊗ cell a i t))
+    ∙ table-ext r (λ i. sumOf c (λ t. cell a i t ⊗ at v t)) (λ i. sumOf c (λ t. at v t ⊗ cell a i t))
     (λ i h. sum-ext c (λ t. cell a i t ⊗ at v t) (λ t. at v t ⊗ cell a i t) (λ t g. times-comm (cell a i t) (at v t)))
 
 -- what was made for all sixteen cells, and what was made of all four rows

@@ -11,7 +11,7 @@ use Rattle.algebra.specs.Array.{used}
 use Rattle.algebra.proofs.Matrices.{Shape, shape-mat, shape-identity, mat-ext}
 use Rattle.algebra.proofs.Arrays.{cell-used}
 use Rattle.answer.proofs.Answers.{Told, result, number-of, result-of, told-if, told-then, told-mapped}
-use Rattle.algebra.specs.Inverse.{noPivot, pivotRow, swapped, reduced, Augmented, _∣_, exchanged, cleared, column, columns, inv}
+use Rattle.algebra.specs.Inverse.{noPivot, pivotRow, swapped, reduced, Augmented, _beside_, exchanged, cleared, column, columns, inv}
 use Rattle.algebra.proofs.Pivots.{pivot-within, pivot-ext}
 
 -- ---- what it reads
@@ -32,11 +32,11 @@ column-ext n c w v h e f =
     ap (λ (q : ℕ). refused-if (noPivot (abs (cell (w .left) q c))) 3 (cleared n c (exchanged n q c w)))
     (pivot-ext (w .left) (v .left) c (n - suc c) (λ i l. e i c (omega arith) h))
     ∙ (λ k. refused-if (noPivot (abs (e p c hp h k))) 3
-    (cleared n c (swapped-ext n p c (w .left) (v .left) hp h e k ∣ swapped-ext n p c (w .right) (v .right) hp h f k)))
+    (cleared n c (swapped-ext n p c (w .left) (v .left) hp h e k beside swapped-ext n p c (w .right) (v .right) hp h f k)))
 
 columns-ext : (n c : ℕ) (A B : Matrix) → c < n → Alike n A B → columns n (suc c) A ≡ columns n (suc c) B
 unfolding columns
-columns-ext n zero A B h e = column-ext n 0 (A ∣ identity n) (B ∣ identity n) h e (λ i j hi hj. refl)
+columns-ext n zero A B h e = column-ext n 0 (A beside identity n) (B beside identity n) h e (λ i j hi hj. refl)
 columns-ext n (suc c) A B h e = ap (λ (o : Answer Augmented). and-then o (λ w. column n (suc c) w)) (columns-ext n c A B (omega arith) e)
 
 pub inv-ext : (n : ℕ) (A B : Matrix) → Alike n A B → inv n A ≡ inv n B

@@ -11,7 +11,7 @@ use lib.ListN.{length, List·getD-append, length-append}
 use lib.Ieee.{Float, nan, neg}
 use Rattle.scalar.specs.Number.{_⊕_, _⊗_, +0, one, _⊖_}
 use Rattle.answer.specs.Table.{table}
-use Rattle.algebra.specs.Matrix.{Vector, Matrix, at, row, cell, mat, sumFrom, sum, mul, matvec, transpose, identity, filled, zeros, scale, negated, set, add, outer, sub}
+use Rattle.algebra.specs.Matrix.{Vector, Matrix, at, row, cell, mat, sumFrom, sumOf, mul, matvec, transpose, identity, filled, zeros, scale, negated, setCell, add, outer, sub}
 use Rattle.answer.proofs.Tables.{length-table, getD-table, table-ext}
 use mathlib.Core.Logic.{⊎-elim}
 use mathlib.Core.List.{_∷_, _++_, []}
@@ -22,7 +22,7 @@ unfolding sumFrom
 sumFrom-ext zero f g e h = e
 sumFrom-ext (suc n) f g e h = ap₂ (λ (x y : Float). x ⊕ y) (sumFrom-ext n f g e (λ t l. h t (le-of-lt (suc-le-suc l)))) (h n (le-refl (suc n)))
 
-pub sum-ext : (n : ℕ) (f g : ℕ → Float) → ((t : ℕ) → t < n → f t ≡ g t) → sum n f ≡ sum n g
+pub sum-ext : (n : ℕ) (f g : ℕ → Float) → ((t : ℕ) → t < n → f t ≡ g t) → sumOf n f ≡ sumOf n g
 sum-ext n f g h = sumFrom-ext n f g refl h
 
 -- A loop has added the first t of k terms to s₀: its invariant
@@ -57,7 +57,7 @@ shape-mat r c f = record {
 
 pub shape-mul : (r k c : ℕ) (A B : Matrix) → Shape r c (mul r k c A B)
 unfolding mul
-shape-mul r k c A B = shape-mat r c (λ i j. sum k (λ t. cell A i t ⊗ cell B t j))
+shape-mul r k c A B = shape-mat r c (λ i j. sumOf k (λ t. cell A i t ⊗ cell B t j))
 
 pub shape-transpose : (r c : ℕ) (A : Matrix) → Shape c r (transpose r c A)
 unfolding transpose
@@ -83,8 +83,8 @@ pub shape-negated : (r c : ℕ) (A : Matrix) → Shape r c (negated r c A)
 unfolding negated
 shape-negated r c A = shape-scale r c A (neg one)
 
-pub shape-set : (r c i j : ℕ) (x : Float) (A : Matrix) → Shape r c (set r c i j x A)
-unfolding set
+pub shape-set : (r c i j : ℕ) (x : Float) (A : Matrix) → Shape r c (setCell r c i j x A)
+unfolding setCell
 shape-set r c i j x A = shape-mat r c (λ p q. cond (eqb p i && eqb q j) x (cell A p q))
 
 pub shape-add : (r c : ℕ) (A B : Matrix) → Shape r c (add r c A B)
@@ -121,14 +121,14 @@ pub mul-ext : (r k c : ℕ) (A B A′ B′ : Matrix) → ((i t : ℕ) → i < r 
     → mul r k c A B ≡ mul r k c A′ B′
 unfolding mul
 mul-ext r k c A B A′ B′ p q =
-    mat-ext r c (λ i j. sum k (λ t. cell A i t ⊗ cell B t j)) (λ i j. sum k (λ t. cell A′ i t ⊗ cell B′ t j))
+    mat-ext r c (λ i j. sumOf k (λ t. cell A i t ⊗ cell B t j)) (λ i j. sumOf k (λ t. cell A′ i t ⊗ cell B′ t j))
     (λ i j h g. sum-ext k (λ t. cell A i t ⊗ cell B t j) (λ t. cell A′ i t ⊗ cell B′ t j) (λ t m. ap₂ (λ (x y : Float). x ⊗ y) (p i t h m) (q t j m g)))
 
 pub matvec-ext : (r c : ℕ) (A A′ : Matrix) (v v′ : Vector) → ((i j : ℕ) → i < r → j < c → cell A i j ≡ cell A′ i j) → ((j : ℕ) → j < c → at v j ≡ at v′ j)
     → matvec r c A v ≡ matvec r c A′ v′
 unfolding matvec
 matvec-ext r c A A′ v v′ p q =
-    table-ext r (λ i. sum c (λ j. cell A i j ⊗ at v j)) (λ i. sum c (λ j. cell A′ i j ⊗ at v′ j))
+    table-ext r (λ i. sumOf c (λ j. cell A i j ⊗ at v j)) (λ i. sumOf c (λ j. cell A′ i j ⊗ at v′ j))
     (λ i h. sum-ext c (λ j. cell A i j ⊗ at v j) (λ j. cell A′ i j ⊗ at v′ j) (λ j g. ap₂ (λ (x y : Float). x ⊗ y) (p i j h g) (q j g)))
 
 pub transpose-ext : (r c : ℕ) (A A′ : Matrix) → ((i j : ℕ) → i < r → j < c → cell A i j ≡ cell A′ i j) → transpose r c A ≡ transpose r c A′

@@ -7,7 +7,7 @@ use lib.Ieee.{Float}
 use Rattle.scalar.specs.Number.{_⊕_, _⊖_, _⊗_}
 use Rattle.scalar.proofs.Product.{times-comm}
 use Rattle.answer.specs.Table.{table}
-use Rattle.algebra.specs.Matrix.{Vector, Matrix, at, cell, mat, sum, vecAdd, vecSub, vecScale, dot, matvec, outer}
+use Rattle.algebra.specs.Matrix.{Vector, Matrix, at, cell, mat, sumOf, vecAdd, vecSub, vecScale, dot, matvec, outer}
 use Rattle.algebra.specs.Array.{cut}
 use Rattle.answer.proofs.Tables.{length-table, table-ext}
 use Rattle.algebra.proofs.Matrices.{sum-ext, mat-ext}
@@ -51,4 +51,4 @@ length-vecScale n v s = length-table n (λ i. at v i ⊗ s)
 
 pub length-matvec : (r c : ℕ) (A : Matrix) (v : Vector) → length (matvec r c A v) ≡ r
 unfolding matvec
-length-matvec r c A v = length-table r (λ i. sum c (λ j. cell A i j ⊗ at v j))
+length-matvec r c A v = length-table r (λ i. sumOf c (λ j. cell A i j ⊗ at v j))

@@ -13,7 +13,6 @@ cut n v = table n (λ j. at v j)
 
 -- the used r rows and c columns of an array of rows
 unfoldable pub used : ℕ → ℕ → List (List Float) → Matrix
-unfolding cut
 used r c a = table r (λ i. cut c (row a i))
 
 -- an array of four: the numbers of v, then +0
@@ -32,7 +31,6 @@ usedFlat r c f = mat r c (λ i j. getD f (i * 4 + j) nan)
 
 -- row i is numbers 4 i to 4 i + 3
 unfoldable pub rowsOfFlat : List Float → List (List Float)
-unfolding usedFlat
 rowsOfFlat f = usedFlat 4 4 f
 
 -- number n is that of row n / 4, column n % 4

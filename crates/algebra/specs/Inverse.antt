@@ -49,13 +49,13 @@ pub record Augmented : Type 0 where
   pub left : Matrix
   pub right : Matrix
 
-infix 20 _∣_
-abbrev pub _∣_ : Matrix → Matrix → Augmented
-A ∣ B = record { left = A; right = B }
+infix 20 _beside_
+abbrev pub _beside_ : Matrix → Matrix → Augmented
+A beside B = record { left = A; right = B }
 
 -- rows p and c of both parts change places
 unfoldable pub exchanged : ℕ → ℕ → ℕ → Augmented → Augmented
-exchanged n p c w = swapped n p c (w .left) ∣ swapped n p c (w .right)
+exchanged n p c w = swapped n p c (w .left) beside swapped n p c (w .right)
 
 -- the pivot of column c stands on the diagonal: row c is multiplied by its reciprocal, and every other row's factor stands in that column
 unfoldable pub cleared : ℕ → ℕ → Augmented → Augmented
@@ -64,7 +64,7 @@ cleared n c w =
     let A = scaledRow n c s (w .left) in
     let B = scaledRow n c s (w .right) in
     let f = table n (λ i. cell A i c) in
-    reduced n c f A ∣ reduced n c f B
+    reduced n c f A beside reduced n c f B
 
 -- column c: its pivot is brought to the diagonal, and the column is cleared; refused where there is no pivot
 unfoldable pub column : ℕ → ℕ → Augmented → Answer Augmented
@@ -74,7 +74,7 @@ column n c w =
 
 -- the first c columns, from left to right
 unfoldable pub columns : ℕ → ℕ → Matrix → Answer Augmented
-columns n zero A = answered (A ∣ identity n)
+columns n zero A = answered (A beside identity n)
 columns n (suc c) A = and-then (columns n c A) (λ w. column n c w)
 
 unfoldable pub inv : ℕ → Matrix → Answer Matrix

@@ -45,8 +45,8 @@ sumFrom s zero f = s
 sumFrom s (suc n) f = sumFrom s n f ⊕ f n
 
 -- a sum starts at +0
-abbrev pub sum : ℕ → (ℕ → Float) → Float
-sum n f = sumFrom +0 n f
+abbrev pub sumOf : ℕ → (ℕ → Float) → Float
+sumOf n f = sumFrom +0 n f
 
 -- ---- vectors
 unfoldable pub vecAdd : ℕ → Vector → Vector → Vector
@@ -59,7 +59,7 @@ unfoldable pub vecScale : ℕ → Vector → Float → Vector
 vecScale n v s = table n (λ i. at v i ⊗ s)
 
 unfoldable pub dot : ℕ → Vector → Vector → Float
-dot n v w = sum n (λ i. at v i ⊗ at w i)
+dot n v w = sumOf n (λ i. at v i ⊗ at w i)
 
 unfoldable pub vecNorm : ℕ → Vector → Float
 vecNorm n v = root (dot n v v)
@@ -69,15 +69,14 @@ unfoldable pub filled : ℕ → ℕ → Float → Matrix
 filled r c x = mat r c (λ i j. x)
 
 unfoldable pub zeros : ℕ → ℕ → Matrix
-unfolding filled
 zeros r c = filled r c +0
 
 unfoldable pub identity : ℕ → Matrix
 identity n = mat n n (λ i j. cond (eqb i j) one +0)
 
 -- A with x in row i, column j
-unfoldable pub set : ℕ → ℕ → ℕ → ℕ → Float → Matrix → Matrix
-set r c i j x A = mat r c (λ p q. cond (eqb p i && eqb q j) x (cell A p q))
+unfoldable pub setCell : ℕ → ℕ → ℕ → ℕ → Float → Matrix → Matrix
+setCell r c i j x A = mat r c (λ p q. cond (eqb p i && eqb q j) x (cell A p q))
 
 -- from r rows and c columns to c rows and r columns
 unfoldable pub transpose : ℕ → ℕ → Matrix → Matrix
@@ -94,32 +93,29 @@ scale r c A s = mat r c (λ i j. cell A i j ⊗ s)
 
 -- times -1: a product, so the sign of a NaN or of a zero is that of the product
 unfoldable pub negated : ℕ → ℕ → Matrix → Matrix
-unfolding scale
 negated r c A = scale r c A (neg one)
 
 -- r × k times k × c
 unfoldable pub mul : ℕ → ℕ → ℕ → Matrix → Matrix → Matrix
-mul r k c A B = mat r c (λ i j. sum k (λ t. cell A i t ⊗ cell B t j))
+mul r k c A B = mat r c (λ i j. sumOf k (λ t. cell A i t ⊗ cell B t j))
 
 -- r × c times a vector of c components
 unfoldable pub matvec : ℕ → ℕ → Matrix → Vector → Vector
-matvec r c A v = table r (λ i. sum c (λ j. cell A i j ⊗ at v j))
+matvec r c A v = table r (λ i. sumOf c (λ j. cell A i j ⊗ at v j))
 
 -- v × transposed w
 unfoldable pub outer : ℕ → ℕ → Vector → Vector → Matrix
 outer r c v w = mat r c (λ i j. at v i ⊗ at w j)
 
 unfoldable pub trace : ℕ → Matrix → Float
-trace n A = sum n (λ i. cell A i i)
+trace n A = sumOf n (λ i. cell A i i)
 
 -- the sum of the squares of all cells, row after row
 unfoldable pub squares : ℕ → ℕ → Matrix → Float
-unfolding sumFrom
 squares zero c A = +0
 squares (suc r) c A = sumFrom (squares r c A) c (λ j. cell A r j ⊗ cell A r j)
 
 unfoldable pub frobNorm : ℕ → ℕ → Matrix → Float
-unfolding squares
 frobNorm r c A = root (squares r c A)
 
 -- f 0, f 1 and so on, n of them, all hold
@@ -129,5 +125,4 @@ every (suc n) f = every n f && f n
 
 -- Rust's == on matrices: -0 equals +0, and a NaN equals nothing
 unfoldable pub equal : ℕ → ℕ → Matrix → Matrix → Bool
-unfolding every
 equal r c A B = every r (λ i. every c (λ j. eq (cell A i j) (cell B i j)))

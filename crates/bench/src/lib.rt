@@ -19,7 +19,8 @@ pub extern "C" fn bench_matmul(
     b: &[[f64; 4]; 4],
     out: &mut [[f64; 4]; 4],
 )
-    ensures { λ u. ⌜ now (out .exit) ≡ asMatrix (where-sized (chained n n n n) (mul n n n (used n n (now (a .entry))) (used n n (now (b .entry))))) .rows ⌝ }
+    ensures { λ u. ⌜
+        now (out .exit) ≡ asMatrix (where-sized (chained n n n n) (mul n n n (used n n (now (a .entry))) (used n n (now (b .entry))))) .rows ⌝ }
 {
     let m = matrix::matmul(*a, n, n, *b, n, n);
     *out = matrix::rows_of(m);
@@ -79,7 +80,10 @@ pub extern "C" fn bench_steps(
     times: usize,
     out: &mut [f64; 4],
 )
-    ensures { λ w. ⌜ now (out .exit) ≡ stepsOf times (newOf (motionFrom n i (now (a .entry)) (now (b .entry)) (now (q .entry))) (sensorFrom n m (now (h .entry)) (now (r .entry))) (estimateFrom n (now (x .entry)) (now (p .entry))) .filter) (now (u .entry)) i (now (z .entry)) m .x ⌝ }
+    ensures { λ w. ⌜
+        now (out .exit) ≡ stepsOf times
+        (newOf (motionFrom n i (now (a .entry)) (now (b .entry)) (now (q .entry))) (sensorFrom n m (now (h .entry)) (now (r .entry)))
+        (estimateFrom n (now (x .entry)) (now (p .entry))) .filter) (now (u .entry)) i (now (z .entry)) m .x ⌝ }
 {
     let s = KalmanFilter::new(n, m, i, *a, *b, *h, *q, *r, *x, *p);
     let f = s.filter;

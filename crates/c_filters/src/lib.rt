@@ -81,7 +81,8 @@ fn update_rows(
     z: &[f64],
     innovation: &mut [f64],
 ) -> u8
-    ensures { λ t. ⌜ (t, (now (filter .exit), now (innovation .exit))) ≡ updateIn n m i (now (filter .entry)) (now (z .entry)) (now (innovation .entry)) ⌝ }
+    ensures { λ t. ⌜
+        (t, (now (filter .exit), now (innovation .exit))) ≡ updateIn n m i (now (filter .entry)) (now (z .entry)) (now (innovation .entry)) ⌝ }
 {
     if both(
         is_step(n, m, i, filter.len(), m, z.len()),
@@ -195,7 +196,8 @@ pub fn kalman_update(
     z: &[f64],
     innovation: &mut [f64],
 ) -> u8
-    ensures { λ t. ⌜ (t, (now (filter .exit), now (innovation .exit))) ≡ updateIn n m i (now (filter .entry)) (now (z .entry)) (now (innovation .entry)) ⌝ }
+    ensures { λ t. ⌜
+        (t, (now (filter .exit), now (innovation .exit))) ≡ updateIn n m i (now (filter .entry)) (now (z .entry)) (now (innovation .entry)) ⌝ }
 {
     if both(
         is_road(n, m, i, filter.len(), z.len()),
@@ -260,7 +262,9 @@ pub fn kalman_new(
     p0: &[f64],
     filter: &mut [f64],
 ) -> u8
-    ensures { λ t. ⌜ (t, now (filter .exit)) ≡ given (now (filter .entry)) (newIn n m i (length (now (filter .entry))) (now (a .entry)) (now (b .entry)) (now (h .entry)) (now (q .entry)) (now (r .entry)) (now (x0 .entry)) (now (p0 .entry))) ⌝ }
+    ensures { λ t. ⌜
+        (t, now (filter .exit)) ≡ given (now (filter .entry)) (newIn n m i (length (now (filter .entry)))
+        (now (a .entry)) (now (b .entry)) (now (h .entry)) (now (q .entry)) (now (r .entry)) (now (x0 .entry)) (now (p0 .entry))) ⌝ }
 {
     if is_parts(
         n,
@@ -378,7 +382,8 @@ pub fn kalman_position_velocity(
     measurement_noise: f64,
     filter: &mut [f64],
 ) -> u8
-    ensures { λ t. ⌜ (t, now (filter .exit)) ≡ given (now (filter .entry)) (trackerIn dt «process_noise» «measurement_noise» (length (now (filter .entry)))) ⌝ }
+    ensures { λ t. ⌜
+        (t, now (filter .exit)) ≡ given (now (filter .entry)) (trackerIn dt «process_noise» «measurement_noise» (length (now (filter .entry)))) ⌝ }
 {
     if filter.len() == 19 {
         let numbers = road_numbers(road::position_velocity(dt, process_noise, measurement_noise));

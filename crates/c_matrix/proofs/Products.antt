@@ -9,7 +9,7 @@ use lib.Ieee.{Float}
 use Rattle.scalar.specs.Number.{_⊗_}
 use Rattle.answer.specs.Table.{table}
 use Rattle.answer.proofs.Tables.{getD-table, table-ext}
-use Rattle.algebra.specs.Matrix.{Vector, Matrix, at, row, cell, sum, mul}
+use Rattle.algebra.specs.Matrix.{Vector, Matrix, at, row, cell, sumOf, mul}
 use Rattle.algebra.specs.Array.{cut, used, padRow}
 use Rattle.matrix.specs.Kernel.{rowTimes}
 use Rattle.matrix.proofs.Sizes.{Bounds}
@@ -45,7 +45,7 @@ rows-in k c w b h d long e0 e1 e2 e3 =
 
 -- row i of the product of A and B, and p is it
 abbrev pub productRow : ℕ → ℕ → Matrix → Matrix → ℕ → Vector
-productRow k c A B i = table c (λ j. sum k (λ t. cell A i t ⊗ cell B t j))
+productRow k c A B i = table c (λ j. sumOf k (λ t. cell A i t ⊗ cell B t j))
 
 pub product-row : {r k c i : ℕ} {A B : Matrix} {v p : List Float} (R : List (List Float)) → RowOf r k A i v → Bounds c → used k c R ≡ B → p ≡ rowTimes k v R
     → cut c p ≡ productRow k c A B i

@@ -8,7 +8,7 @@ use lib.ListN.{length}
 use lib.Ieee.{Float}
 use Rattle.scalar.specs.Number.{+0, one, two, half, π, epsilon}
 use Rattle.answer.specs.Answer.{Answer, mapped, where-sized, if-sized}
-use Rattle.algebra.specs.Matrix.{cell, zeros, filled, identity, set, transpose, scale, negated, frobNorm, trace, add, sub, equal, mul}
+use Rattle.algebra.specs.Matrix.{cell, zeros, filled, identity, setCell, transpose, scale, negated, frobNorm, trace, add, sub, equal, mul}
 use Rattle.algebra.specs.Matrix.{matvec, outer, vecAdd, vecSub, vecScale, dot, vecNorm}
 use Rattle.algebra.specs.Inverse.{inv}
 use Rattle.algebra.specs.Cholesky.{cholesky}
@@ -57,7 +57,7 @@ abbrev pub getIn : ℕ → ℕ → ℕ → ℕ → Slice → Answer Float
 getIn r c i j a = where-sized (isMatrix r c (length a) && inside r c i j) (cell (rows r c a) i j)
 
 abbrev pub setIn : ℕ → ℕ → ℕ → ℕ → Slice → Float → ℕ → Answer Slice
-setIn r c i j a x k = where-sized ((isMatrix r c (length a) && isMatrix r c k) && inside r c i j) (joined (set r c i j x (rows r c a)))
+setIn r c i j a x k = where-sized ((isMatrix r c (length a) && isMatrix r c k) && inside r c i j) (joined (setCell r c i j x (rows r c a)))
 
 -- ---- two matrices
 abbrev pub addIn : ℕ → ℕ → Slice → Slice → ℕ → Answer Slice

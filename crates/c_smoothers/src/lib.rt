@@ -51,7 +51,9 @@ pub fn rts_smoother_store_forward(
     filtered: &[f64],
     predicted: &[f64],
 ) -> u8
-    ensures { λ t. ⌜ (t, (now (count .exit), now (slots .exit))) ≡ given (now (count .entry), now (slots .entry)) (storeIn n room (now (count .entry)) (now (slots .entry)) (now (filtered .entry)) (now (predicted .entry))) ⌝ }
+    ensures { λ t. ⌜
+        (t, (now (count .exit), now (slots .exit))) ≡ given (now (count .entry), now (slots .entry))
+        (storeIn n room (now (count .entry)) (now (slots .entry)) (now (filtered .entry)) (now (predicted .entry))) ⌝ }
 {
     let c = *count;
     let pairs = both(
@@ -112,7 +114,9 @@ pub fn rts_smoother_smooth(
     transition: &[f64],
     output: &mut [f64],
 ) -> u8
-    ensures { λ t. ⌜ (t, now (output .exit)) ≡ given (now (output .entry)) (smoothIn n room count (now (slots .entry)) (now (transition .entry)) (length (now (output .entry)))) ⌝ }
+    ensures { λ t. ⌜
+        (t, now (output .exit)) ≡ given (now (output .entry))
+        (smoothIn n room count (now (slots .entry)) (now (transition .entry)) (length (now (output .entry)))) ⌝ }
 {
     if is_square(n, transition.len()) {
         let s = size_of(n);

@@ -11,15 +11,22 @@ ghost use Prim.Native.Nat.{_<_};
 ghost use Rattle.answer.specs.Answer.{if-sized};
 ghost use Rattle.algebra.specs.Matrix.{row};
 ghost use Rattle.algebra.specs.Array.{used, padRow};
-ghost use Rattle.algebra.specs.Cholesky.{diagonalOf, leftCells, cholesky as choleskyOf};
+ghost use Rattle.algebra.specs.Cholesky.{noDiagonal, diagonalOf, leftCells, cholesky as choleskyOf};
 ghost use Rattle.matrix.specs.Size.{count, part, sized};
 ghost use Rattle.matrix.specs.Result.{asMatrix, asScalar};
 
-// The root of what is left of a diagonal cell. At or below zero it is refused with 4; a NaN passes.
-pub fn diagonal_root(d: f64) -> ScalarResult
+// What is left of a diagonal cell is at or below zero. A NaN is not.
+fn no_diagonal(d: f64) -> bool
+    ensures { λ r. ⌜ r ≡ noDiagonal d ⌝ }
+{
+    d <= 0.0
+}
+
+// The root of what is left of a diagonal cell. Refused with 4: no diagonal.
+fn diagonal_root(d: f64) -> ScalarResult
     ensures { λ r. ⌜ r ≡ asScalar (diagonalOf d) ⌝ }
 {
-    if d <= 0.0 {
+    if no_diagonal(d) {
         ScalarResult::Refused(4)
     } else {
         ScalarResult::Value(ControlScalar::sqrt(d))

@@ -10,7 +10,7 @@ use native.Mathlib.Omega.{arith}
 use lib.Ieee.{Float, eq}
 use lib.ListN.{replicate}
 use Rattle.scalar.specs.Number.{_⊗_, +0}
-use Rattle.algebra.specs.Matrix.{cell, mat, sumFrom, sum, filled, scale, trace, squares, every, equal}
+use Rattle.algebra.specs.Matrix.{cell, mat, sumFrom, sumOf, filled, scale, trace, squares, every, equal}
 use Rattle.algebra.specs.Array.{cut, used}
 use Rattle.algebra.proofs.Matrices.{sumFrom-ext, sum-ext}
 use Rattle.algebra.proofs.Arrays.{cell-used, used-mat, both-used}
@@ -26,7 +26,7 @@ used-scale r c a s hr hc = used-mat r c (λ i j. cell a i j ⊗ s) hr hc ∙ sym
 
 -- ---- sums
 
-pub trace-used : (n : ℕ) (a : List (List Float)) → trace n (used n n a) ≡ sum n (λ i. cell a i i)
+pub trace-used : (n : ℕ) (a : List (List Float)) → trace n (used n n a) ≡ sumOf n (λ i. cell a i i)
 unfolding trace
 trace-used n a = sum-ext n (λ i. cell (used n n a) i i) (λ i. cell a i i) (λ i h. cell-used n n a i i h h)
 

@@ -10,8 +10,7 @@ use lib.ListN.{set, drop, replicate}
 use lib.Ieee.{Float}
 use Rattle.scalar.specs.Number.{+0}
 use Rattle.answer.specs.Table.{table, padTo}
-use Rattle.algebra.specs.Matrix.{Vector, row, cell, mat}
-use Rattle.algebra.specs.Matrix as Spec
+use Rattle.algebra.specs.Matrix.{Vector, row, cell, mat, setCell}
 use Rattle.algebra.specs.Array.{cut, used, padRow, pad}
 use Rattle.answer.proofs.Tables.{length-table, getD-table, table-ext, getD-padTo, filled-pad}
 use Rattle.algebra.proofs.Matrices.{mat-ext}
@@ -57,8 +56,8 @@ stored-pad r c i j x f hi hj =
     ∙ pad-rows r (λ p. table c (λ q. cond (eqb p i && eqb q j) x (f p q)))
 
 pub stored-used : (r c i j : ℕ) (x : Float) (a : List (List Float)) {l : List (List Float)} → l ≡ pad (used r c a) → i < r → j < c
-    → set l i (set (row l i) j x) ≡ pad (Spec.set r c i j x (used r c a))
-unfolding used cut Spec.set
+    → set l i (set (row l i) j x) ≡ pad (setCell r c i j x (used r c a))
+unfolding used cut setCell
 stored-used r c i j x a e hi hj =
     ap (λ (k : List (List Float)). set k i (set (row k i) j x)) e
     ∙ stored-pad r c i j x (λ p q. cell a p q) hi hj

@@ -20,7 +20,7 @@ ghost use lib.Ieee.{eq};
 ghost use Rattle.scalar.specs.Number.{_⊗_};
 ghost use Rattle.answer.specs.Answer.{where-sized};
 ghost use Rattle.algebra.specs.Matrix.{at, cell, zeros, filled, identity, transpose, add, sub, scale, negated};
-ghost use Rattle.algebra.specs.Matrix.{set, sumFrom, squares, frobNorm, trace, every, equal};
+ghost use Rattle.algebra.specs.Matrix.{setCell, sumFrom, squares, frobNorm, trace, every, equal};
 ghost use Rattle.algebra.specs.Array.{used, usedFlat, flatOfRows};
 ghost use Rattle.matrix.specs.Result.{asMatrix, asScalar, asTest};
 ghost use Rattle.matrix.specs.Size.{count, part, sized, shaped, alike, inside};
@@ -190,7 +190,7 @@ pub fn get(a: [[f64; 4]; 4], r: usize, c: usize, i: usize, j: usize) -> ScalarRe
 
 // a with val in row i, column j. Refused as get.
 pub fn set(a: [[f64; 4]; 4], r: usize, c: usize, i: usize, j: usize, val: f64) -> MatrixResult
-    ensures { λ m. ⌜ m ≡ asMatrix (where-sized (inside r c i j) (set r c i j val (used r c a))) ⌝ }
+    ensures { λ m. ⌜ m ≡ asMatrix (where-sized (inside r c i j) (setCell r c i j val (used r c a))) ⌝ }
 {
     if is_inside(r, c, i, j) {
         let rows = size_of(r);

@@ -24,7 +24,8 @@ pub extern "C" fn kalman_update(
     z: &[f64],
     innovation: &mut [f64],
 ) -> u8
-    ensures { λ t. ⌜ (t, (now (filter .exit), now (innovation .exit))) ≡ updateIn n m i (now (filter .entry)) (now (z .entry)) (now (innovation .entry)) ⌝ }
+    ensures { λ t. ⌜
+        (t, (now (filter .exit), now (innovation .exit))) ≡ updateIn n m i (now (filter .entry)) (now (z .entry)) (now (innovation .entry)) ⌝ }
 {
     c_filters::kalman_update(n, m, i, filter, z, innovation)
 }
@@ -44,7 +45,9 @@ pub extern "C" fn kalman_new(
     p0: &[f64],
     filter: &mut [f64],
 ) -> u8
-    ensures { λ t. ⌜ (t, now (filter .exit)) ≡ given (now (filter .entry)) (newIn n m i (length (now (filter .entry))) (now (a .entry)) (now (b .entry)) (now (h .entry)) (now (q .entry)) (now (r .entry)) (now (x0 .entry)) (now (p0 .entry))) ⌝ }
+    ensures { λ t. ⌜
+        (t, now (filter .exit)) ≡ given (now (filter .entry)) (newIn n m i (length (now (filter .entry)))
+        (now (a .entry)) (now (b .entry)) (now (h .entry)) (now (q .entry)) (now (r .entry)) (now (x0 .entry)) (now (p0 .entry))) ⌝ }
 {
     c_filters::kalman_new(n, m, i, a, b, h, q, r, x0, p0, filter)
 }
@@ -94,7 +97,8 @@ pub extern "C" fn kalman_position_velocity(
     measurement_noise: f64,
     filter: &mut [f64],
 ) -> u8
-    ensures { λ t. ⌜ (t, now (filter .exit)) ≡ given (now (filter .entry)) (trackerIn dt «process_noise» «measurement_noise» (length (now (filter .entry)))) ⌝ }
+    ensures { λ t. ⌜
+        (t, now (filter .exit)) ≡ given (now (filter .entry)) (trackerIn dt «process_noise» «measurement_noise» (length (now (filter .entry)))) ⌝ }
 {
     c_filters::kalman_position_velocity(dt, process_noise, measurement_noise, filter)
 }

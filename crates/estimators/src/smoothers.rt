@@ -14,7 +14,9 @@ pub extern "C" fn rts_smoother_store_forward(
     filtered: &[f64],
     predicted: &[f64],
 ) -> u8
-    ensures { λ t. ⌜ (t, (now (count .exit), now (slots .exit))) ≡ given (now (count .entry), now (slots .entry)) (storeIn n room (now (count .entry)) (now (slots .entry)) (now (filtered .entry)) (now (predicted .entry))) ⌝ }
+    ensures { λ t. ⌜
+        (t, (now (count .exit), now (slots .exit))) ≡ given (now (count .entry), now (slots .entry))
+        (storeIn n room (now (count .entry)) (now (slots .entry)) (now (filtered .entry)) (now (predicted .entry))) ⌝ }
 {
     c_smoothers::rts_smoother_store_forward(n, room, count, slots, filtered, predicted)
 }
@@ -45,7 +47,9 @@ pub extern "C" fn rts_smoother_smooth(
     transition: &[f64],
     output: &mut [f64],
 ) -> u8
-    ensures { λ t. ⌜ (t, now (output .exit)) ≡ given (now (output .entry)) (smoothIn n room count (now (slots .entry)) (now (transition .entry)) (length (now (output .entry)))) ⌝ }
+    ensures { λ t. ⌜
+        (t, now (output .exit)) ≡ given (now (output .entry))
+        (smoothIn n room count (now (slots .entry)) (now (transition .entry)) (length (now (output .entry)))) ⌝ }
 {
     c_smoothers::rts_smoother_smooth(n, room, count, slots, transition, output)
 }

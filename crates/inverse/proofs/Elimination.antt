@@ -24,7 +24,7 @@ use Rattle.matrix.proofs.Results.{if-answered}
 use Rattle.answer.proofs.Tables.{getD-table, table-ext}
 use Rattle.algebra.proofs.Matrices.{Shape, shape-identity}
 use Rattle.algebra.proofs.Arrays.{cell-used, identity-used, used-all, used-four}
-use Rattle.algebra.specs.Inverse.{noPivot, pivotRow, swapped, scaledRow, reduced, Augmented, _∣_, exchanged, cleared, column, columns, inv}
+use Rattle.algebra.specs.Inverse.{noPivot, pivotRow, swapped, scaledRow, reduced, Augmented, _beside_, exchanged, cleared, column, columns, inv}
 use Rattle.inverse.specs.Rows.{Swap, Scale, Reduce, Clear}
 use Rattle.answer.proofs.Answers.{if-true, if-false}
 use Rattle.algebra.proofs.Inverses.{column-ext, inv-shape}
@@ -64,7 +64,7 @@ turn {n} {c} {p} {l} {l₁} {l₂} {l₃} {r} {r₁} {r₂} {r₃} {f} four h hl
     let eB′ : used n n r₂ ≡ scaledRow n c s (swapped n p c r) = turn-scaled hr x′ y′ n four h ∙ (λ k. scaledRow n c (es k) (turn-swapped hr x′ y′ n four k)) in
     let ef = ap (cut n) e ∙ factors-used n c l₂ four h ∙ ap (λ (M : Matrix). table n (λ i. cell M i c)) eA′ in
     record {
-      is = (λ k. z .is k ∣ z′ .is k) ∙ (λ k. reduced n c (ef k) (eA′ k) ∣ reduced n c (ef k) (eB′ k));
+      is = (λ k. z .is k beside z′ .is k) ∙ (λ k. reduced n c (ef k) (eA′ k) beside reduced n c (ef k) (eB′ k));
       left = z .long;
       right = z′ .long;
     }
@@ -81,7 +81,7 @@ pub record Sweeping (n : ℕ) (A : Matrix) (c : ℕ) (l r : Matrix) : Type 0 whe
   pub within : c ≤ n
   pub left : length l ≡ 4
   pub right : length r ≡ 4
-  pub is : columns n c A ≡ answered (used n n l ∣ used n n r)
+  pub is : columns n c A ≡ answered (used n n l beside used n n r)
 
 pub sweeping-none : (n : ℕ) (a r : Matrix) → n ≤ 4 → r ≡ identity 4 → Sweeping n (used n n a) 0 (table 4 (λ i. row a i)) r
 unfolding columns
@@ -91,7 +91,7 @@ sweeping-none n a r four e =
       within = omega arith;
       left = refl;
       right = ap length e ∙ shape-identity 4 .rows;
-      is = sym (λ k. answered (used-four n n a four k ∣ (ap (used n n) e ∙ identity-used n four) k));
+      is = sym (λ k. answered (used-four n n a four k beside (ap (used n n) e ∙ identity-used n four) k));
     }
 
 -- a refusal stands
@@ -103,12 +103,12 @@ refused-on n c (suc d) A e =
 
 -- in the next column, p is the pivot's row
 module _ {n : ℕ} {A : Matrix} {c : ℕ} {l r : Matrix} {p : ℕ} (e : Sweeping n A c l r) (h : c < n) (q : p ≡ pivotRow l c (n - suc c)) where
-  next : columns n (suc c) A ≡ refused-if (noPivot (abs (cell l p c))) 3 (cleared n c (exchanged n p c (l ∣ r)))
+  next : columns n (suc c) A ≡ refused-if (noPivot (abs (cell l p c))) 3 (cleared n c (exchanged n p c (l beside r)))
   unfolding columns column
   next =
       ap (λ (o : Answer Augmented). and-then o (λ w. column n c w)) (e .is)
-      ∙ column-ext n c (used n n l ∣ used n n r) (l ∣ r) h (cell-used n n l) (cell-used n n r)
-      ∙ ap (λ (i : ℕ). refused-if (noPivot (abs (cell l i c))) 3 (cleared n c (exchanged n i c (l ∣ r)))) (sym q)
+      ∙ column-ext n c (used n n l beside used n n r) (l beside r) h (cell-used n n l) (cell-used n n r)
+      ∙ ap (λ (i : ℕ). refused-if (noPivot (abs (cell l i c))) 3 (cleared n c (exchanged n i c (l beside r)))) (sym q)
 
   pub sweeping-more : {l′ r′ : Matrix} → noPivot (abs (cell l p c)) ≡ false → Clear n p c l r l′ r′ → Sweeping n A (c + 1) l′ r′
   sweeping-more t v =

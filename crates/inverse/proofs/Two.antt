@@ -6,8 +6,8 @@ use lib.Ieee.{Float, lt}
 use Rattle.scalar.specs.Number.{_⊖_, _⊗_, _⊘_, one, +0, abs}
 use Rattle.answer.specs.Answer.{Answer, refused, and-then, mapped, refused-if}
 use Rattle.algebra.specs.Matrix.{Matrix, cell, identity, oneByOne, twoByTwo}
-use Rattle.algebra.specs.Inverse.{noPivot, pivotRow, swapped, scaledRow, reduced, Augmented, _∣_, exchanged, cleared, column, columns, inv}
-use Rattle.inverse.specs.Two.{reciprocal, fromDiagonal}
+use Rattle.algebra.specs.Inverse.{noPivot, pivotRow, swapped, scaledRow, reduced, Augmented, _beside_, exchanged, cleared, column, columns, inv}
+use Rattle.inverse.specs.Two.{invNumber, fromDiagonal}
 
 -- the right part after a test, and after a test and a step more
 tested : (b : Bool) (w : Augmented) → mapped (λ v. v .right) (refused-if b 3 w) ≡ refused-if b 3 (w .right)
@@ -21,39 +21,47 @@ then-tested false w f = refl
 
 one-is : (x : Float) → inv 1 (oneByOne x) ≡ refused-if (noPivot (abs x)) 3 (oneByOne (one ⊗ (one ⊘ x)))
 unfolding inv columns column exchanged swapped cleared scaledRow reduced pivotRow identity
-one-is x = tested (noPivot (abs x)) (cleared 1 0 (exchanged 1 0 0 (oneByOne x ∣ identity 1)))
+one-is x = tested (noPivot (abs x)) (cleared 1 0 (exchanged 1 0 0 (oneByOne x beside identity 1)))
 
-pub number-is : (x : Float) → inv 1 (oneByOne x) ≡ mapped oneByOne (reciprocal x)
-unfolding reciprocal
-number-is x = one-is x ∙ within (noPivot (abs x))
-  where
-    within : (b : Bool) → refused-if b 3 (oneByOne (one ⊗ (one ⊘ x))) ≡ mapped oneByOne (refused-if b 3 (one ⊗ (one ⊘ x)))
-    within true = refl
-    within false = refl
+-- as a number: a matrix of one cell is told by its cell
+of-cell : (b : Bool) (y : Float) → mapped (λ W. cell W 0 0) (refused-if b 3 (oneByOne y)) ≡ refused-if b 3 y
+of-cell true y = refl
+of-cell false y = refl
+
+in-cell : (b : Bool) (y : Float) → refused-if b 3 (oneByOne y) ≡ mapped oneByOne (refused-if b 3 y)
+in-cell true y = refl
+in-cell false y = refl
+
+pub invNumber-is : (x : Float) → invNumber x ≡ refused-if (noPivot (abs x)) 3 (one ⊗ (one ⊘ x))
+unfolding invNumber
+invNumber-is x = ap (mapped (λ W. cell W 0 0)) (one-is x) ∙ of-cell (noPivot (abs x)) _
+
+pub number-is : (x : Float) → inv 1 (oneByOne x) ≡ mapped oneByOne (invNumber x)
+number-is x = one-is x ∙ in-cell (noPivot (abs x)) _ ∙ sym (ap (mapped oneByOne) (invNumber-is x))
 
 -- the pivot of the second column; and of a column of the right part that was x, y, what comes to stand in the second row and in the first
 module _ (a b p q e f g h : Float) where
   abbrev pub second : Float
   second = q ⊖ p ⊗ (b ⊗ (one ⊘ a))
 
-  abbrev pub below : Float → Float → Float
-  below x y = (y ⊖ p ⊗ (x ⊗ (one ⊘ a))) ⊗ (one ⊘ second)
+  abbrev pub bottom : Float → Float → Float
+  bottom x y = (y ⊖ p ⊗ (x ⊗ (one ⊘ a))) ⊗ (one ⊘ second)
 
   abbrev pub top : Float → Float → Float
-  top x y = x ⊗ (one ⊘ a) ⊖ b ⊗ (one ⊘ a) ⊗ below x y
+  top x y = x ⊗ (one ⊘ a) ⊖ b ⊗ (one ⊘ a) ⊗ bottom x y
 
   pub diagonal-is : fromDiagonal (twoByTwo a b p q) (twoByTwo e f g h)
-      ≡ cond (noPivot (abs a)) (refused 3) (refused-if (noPivot (abs second)) 3 (twoByTwo (top e g) (top f h) (below e g) (below f h)))
+      ≡ cond (noPivot (abs a)) (refused 3) (refused-if (noPivot (abs second)) 3 (twoByTwo (top e g) (top f h) (bottom e g) (bottom f h)))
   unfolding fromDiagonal column exchanged swapped cleared scaledRow reduced pivotRow
   diagonal-is =
-      then-tested (noPivot (abs a)) (cleared 2 0 (twoByTwo a b p q ∣ twoByTwo e f g h)) (λ w. column 2 1 w)
+      then-tested (noPivot (abs a)) (cleared 2 0 (twoByTwo a b p q beside twoByTwo e f g h)) (λ w. column 2 1 w)
       ∙ ap (cond (noPivot (abs a)) (refused 3))
-      (tested (noPivot (abs second)) (cleared 2 1 (exchanged 2 1 1 (cleared 2 0 (twoByTwo a b p q ∣ twoByTwo e f g h)))))
+      (tested (noPivot (abs second)) (cleared 2 1 (exchanged 2 1 1 (cleared 2 0 (twoByTwo a b p q beside twoByTwo e f g h)))))
 
 -- the first column's pivot in row p, whichever that is
 module _ (A : Matrix) where
   from : ℕ → Answer Matrix
-  from p = mapped (λ w. w .right) (and-then (refused-if (noPivot (abs (cell A p 0))) 3 (cleared 2 0 (exchanged 2 p 0 (A ∣ identity 2)))) (λ w. column 2 1 w))
+  from p = mapped (λ w. w .right) (and-then (refused-if (noPivot (abs (cell A p 0))) 3 (cleared 2 0 (exchanged 2 p 0 (A beside identity 2)))) (λ w. column 2 1 w))
 
   choice : (b : Bool) → from (cond b 1 0) ≡ cond b (from 1) (from 0)
   choice true = refl

@@ -6,7 +6,7 @@ use lib.ListN.{length, set}
 use lib.Ieee.{Float}
 use Rattle.algebra.specs.Matrix.{row, vecScale}
 use Rattle.algebra.specs.Array.{cut, used}
-use Rattle.algebra.specs.Inverse.{_∣_, reduced, exchanged, cleared}
+use Rattle.algebra.specs.Inverse.{_beside_, reduced, exchanged, cleared}
 
 abbrev pub Array : Type 0
 Array = List (List Float)
@@ -24,6 +24,6 @@ pub record Reduce (n c : ℕ) (f : List Float) (m m′ : Array) : Type 0 where
 
 -- a whole column, from l and r to l′ and r′
 pub record Clear (n p c : ℕ) (l r l′ r′ : Array) : Type 0 where
-  pub is : (used n n l′ ∣ used n n r′) ≡ cleared n c (exchanged n p c (l ∣ r))
+  pub is : (used n n l′ beside used n n r′) ≡ cleared n c (exchanged n p c (l beside r))
   pub left : length l′ ≡ 4
   pub right : length r′ ≡ 4

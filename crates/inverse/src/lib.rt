@@ -12,7 +12,7 @@ ghost use Rattle.algebra.specs.Array.{used};
 ghost use Rattle.algebra.specs.Inverse.{noPivot, pivotRow, inv as invOf};
 ghost use Rattle.matrix.specs.Size.{count, part, sized};
 ghost use Rattle.matrix.specs.Result.{matrixResult, asMatrix, asScalar};
-ghost use Rattle.inverse.specs.Two.{inRows, reciprocal, fromDiagonal};
+ghost use Rattle.inverse.specs.Two.{inRows, invNumber, fromDiagonal};
 ghost use Rattle.inverse.specs.Rows.{Swap, Scale, Reduce, Clear};
 use answer::Status;
 use matrix::MatrixResult;
@@ -135,7 +135,8 @@ fn eliminate(a: &[[f64; 4]; 4], n: Size) -> MatrixResult
 
 // ---- the sizes 1 and 2, straight-line
 
-fn above(x: f64, y: f64) -> bool
+// The magnitude of x is larger than that of y. No NaN is larger than another number, or smaller.
+fn is_larger(x: f64, y: f64) -> bool
     ensures { λ r. ⌜ r ≡ lt (absOf y) (absOf x) ⌝ }
 {
     scalar::ControlScalar::abs(x) > scalar::ControlScalar::abs(y)
@@ -143,7 +144,7 @@ fn above(x: f64, y: f64) -> bool
 
 // The inverse of a matrix of one cell, as a number. Refused with 3: no pivot.
 pub fn inverse_number(x: f64) -> ScalarResult
-    ensures { λ r. ⌜ r ≡ asScalar (reciprocal x) ⌝ }
+    ensures { λ r. ⌜ r ≡ asScalar (invNumber x) ⌝ }
 {
     if no_pivot(x) {
         ScalarResult::Refused(3)
@@ -190,7 +191,7 @@ fn diagonal_two(a: f64, b: f64, p: f64, q: f64, e: f64, f: f64, g: f64, h: f64) 
 pub fn inverse_two(a: f64, b: f64, c: f64, d: f64) -> VectorResult
     ensures { λ r. ⌜ inRows r ≡ asMatrix (invOf 2 (twoByTwo a b c d)) ⌝ }
 {
-    let t = above(c, a);
+    let t = is_larger(c, a);
     let e = kernel::pick(t, 0.0, 1.0);
     let f = kernel::pick(t, 1.0, 0.0);
     let first = kernel::pick(t, c, a);

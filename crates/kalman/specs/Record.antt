@@ -40,6 +40,13 @@ flatsOf e = (padRow (e .state), flat (e .covariance))
 abbrev pub leftFlat : {R : Type 0} → List Float → List Float → Outcome Estimate R → List Float × List Float
 leftFlat x p o = standing flatsOf (x, p) (o .left)
 
+-- ---- the steps on a record's numbers
+abbrev pub predictFlat : ℕ → ℕ → List Float → List Float → List Float → List Float → List Float → List Float → Outcome Estimate (Unit {0})
+predictFlat n i a b q u x p = predict (motionFlat n i a b q) (cut i u) (estimateFlat n x p)
+
+abbrev pub updateFlat : ℕ → ℕ → List Float → List Float → Vector → List Float → List Float → Outcome Estimate Vector
+updateFlat n m h r z x p = update (sensorFlat n m h r) z (estimateFlat n x p)
+
 -- ---- a record of a model and an estimate, and what is given for one in arrays of rows
 abbrev pub recordOf : Motion → Sensor Matrix → Estimate → KalmanFilter
 recordOf M Y e = record {
@@ -88,11 +95,10 @@ noFilter = recordOf (record { n = 0; i = 0; a = []; b = []; q = [] }) (record { 
 
 -- ---- the outcome of each step: 1 where a size does not fit, else that of the filter
 abbrev pub predicting : KalmanFilter → List Float → ℕ → Outcome Estimate (Unit {0})
-predicting f u k =
-    if-fitting (fitting (f .n) (f .m) (f .i) (f .i) k) (predict (motionFlat (f .n) (f .i) (f .a) (f .b) (f .q)) (cut (f .i) u) (estimateFlat (f .n) (f .x) (f .p)))
+predicting f u k = if-fitting (fitting (f .n) (f .m) (f .i) (f .i) k) (predictFlat (f .n) (f .i) (f .a) (f .b) (f .q) u (f .x) (f .p))
 
 abbrev pub updating : KalmanFilter → Vector → ℕ → Outcome Estimate Vector
-updating f z k = if-fitting (fitting (f .n) (f .m) (f .i) (f .m) k) (update (sensorFlat (f .n) (f .m) (f .h) (f .r)) z (estimateFlat (f .n) (f .x) (f .p)))
+updating f z k = if-fitting (fitting (f .n) (f .m) (f .i) (f .m) k) (updateFlat (f .n) (f .m) (f .h) (f .r) z (f .x) (f .p))
 
 -- ---- what each method hands back: its answer, and the filter that it leaves
 abbrev pub stepped : {R : Type 0} → KalmanFilter → Outcome Estimate R → Stepped

@@ -6,10 +6,9 @@ ghost use Rattle.matrix.specs.Size.{count};
 ghost use Rattle.matrix.specs.Result.{asVector};
 ghost use Rattle.answer.specs.Outcome.{if-fitting, handed};
 ghost use Rattle.answer.specs.Told.{statusOf};
-ghost use Rattle.filtering.specs.Linear.{predict as predictStep, update as updateStep};
 ghost use Rattle.steps.specs.Step.{fitting};
 ghost use Rattle.steps.specs.Road.{matrixOf, estimateOf};
-ghost use Rattle.kalman.specs.Record.{flat, motionFlat, sensorFlat, estimateFlat, flatsOf, leftFlat};
+ghost use Rattle.kalman.specs.Record.{flat, estimateFlat, flatsOf, leftFlat, predictFlat, updateFlat};
 ghost use Rattle.kalman.specs.Record.{motionFrom, sensorFrom, estimateFrom, noFilter, newOf, positionVelocityOf, stateOf, covarianceOf};
 ghost use Rattle.kalman.specs.Record.{predictOf, resetOf, updateOf, updateOneOf};
 use answer::Status;
@@ -100,7 +99,9 @@ fn predict_road<'a>(
     x: &mut [f64; 4],
     p: &mut [f64; 16],
 )
-    ensures { λ w. ⌜ (now (x .exit), now (p .exit)) ≡ leftFlat (now (x .entry)) (now (p .entry)) (predictStep (motionFlat 2 1 (now (a .entry)) (now (b .entry)) (now (q .entry))) (cut 1 (now (u .entry))) (estimateFlat 2 (now (x .entry)) (now (p .entry)))) ⌝ }
+    ensures { λ w. ⌜
+        (now (x .exit), now (p .exit)) ≡ leftFlat (now (x .entry)) (now (p .entry))
+        (predictFlat 2 1 (now (a .entry)) (now (b .entry)) (now (q .entry)) (now (u .entry)) (now (x .entry)) (now (p .entry))) ⌝ }
 {
     let e = steps::road::predict(two_in(a), b[0], b[4], two_in(q), u[0], pair_in(x, p));
     *x = [e.x0, e.x1, 0.0, 0.0];
@@ -114,7 +115,9 @@ fn update_road<'a>(
     x: &mut [f64; 4],
     p: &mut [f64; 16],
 ) -> VectorResult
-    ensures { λ v. ⌜ (v, (now (x .exit), now (p .exit))) ≡ handed asVector flatsOf (now (x .entry), now (p .entry)) (updateStep (sensorFlat 2 1 (now (h .entry)) (now (r .entry))) (cut 1 (now (z .entry))) (estimateFlat 2 (now (x .entry)) (now (p .entry)))) ⌝ }
+    ensures { λ v. ⌜
+        (v, (now (x .exit), now (p .exit))) ≡ handed asVector flatsOf (now (x .entry), now (p .entry))
+        (updateFlat 2 1 (now (h .entry)) (now (r .entry)) (cut 1 (now (z .entry))) (now (x .entry)) (now (p .entry))) ⌝ }
 {
     let v = steps::road::update(h[0], h[1], r[0], z[0], pair_in(x, p));
     let answer = v.answer;
@@ -141,7 +144,9 @@ fn predict_rows<'a>(
     x: &mut [f64; 4],
     p: &mut [f64; 16],
 )
-    ensures { λ w. ⌜ (now (x .exit), now (p .exit)) ≡ leftFlat (now (x .entry)) (now (p .entry)) (predictStep (motionFlat (count n) (count i) (now (a .entry)) (now (b .entry)) (now (q .entry))) (cut (count i) (now (u .entry))) (estimateFlat (count n) (now (x .entry)) (now (p .entry)))) ⌝ }
+    ensures { λ w. ⌜
+        (now (x .exit), now (p .exit)) ≡ leftFlat (now (x .entry)) (now (p .entry))
+        (predictFlat (count n) (count i) (now (a .entry)) (now (b .entry)) (now (q .entry)) (now (u .entry)) (now (x .entry)) (now (p .entry))) ⌝ }
 {
     let am = kernel::from_flat(a);
     let bm = kernel::from_flat(b);
@@ -160,7 +165,9 @@ fn update_rows<'a>(
     x: &mut [f64; 4],
     p: &mut [f64; 16],
 ) -> VectorResult
-    ensures { λ v. ⌜ (v, (now (x .exit), now (p .exit))) ≡ handed asVector flatsOf (now (x .entry), now (p .entry)) (updateStep (sensorFlat (count n) (count m) (now (h .entry)) (now (r .entry))) (cut (count m) (now (z .entry))) (estimateFlat (count n) (now (x .entry)) (now (p .entry)))) ⌝ }
+    ensures { λ v. ⌜
+        (v, (now (x .exit), now (p .exit))) ≡ handed asVector flatsOf (now (x .entry), now (p .entry))
+        (updateFlat (count n) (count m) (now (h .entry)) (now (r .entry)) (cut (count m) (now (z .entry))) (now (x .entry)) (now (p .entry))) ⌝ }
 {
     let hm = kernel::from_flat(h);
     let rm = kernel::from_flat(r);
@@ -190,7 +197,9 @@ fn predict_in<'a>(
     x: &mut [f64; 4],
     p: &mut [f64; 16],
 ) -> Status
-    ensures { λ s. ⌜ (s, (now (x .exit), now (p .exit))) ≡ handed statusOf flatsOf (now (x .entry), now (p .entry)) (if-fitting (fitting n m i i k) (predictStep (motionFlat n i (now (a .entry)) (now (b .entry)) (now (q .entry))) (cut i (now (u .entry))) (estimateFlat n (now (x .entry)) (now (p .entry))))) ⌝ }
+    ensures { λ s. ⌜
+        (s, (now (x .exit), now (p .exit))) ≡ handed statusOf flatsOf (now (x .entry), now (p .entry)) (if-fitting (fitting n m i i k)
+        (predictFlat n i (now (a .entry)) (now (b .entry)) (now (q .entry)) (now (u .entry)) (now (x .entry)) (now (p .entry)))) ⌝ }
 {
     if is_fitting(n, m, i, i, k) {
         if both(n == 2, i == 1) {
@@ -214,7 +223,9 @@ fn update_in<'a>(
     x: &mut [f64; 4],
     p: &mut [f64; 16],
 ) -> VectorResult
-    ensures { λ v. ⌜ (v, (now (x .exit), now (p .exit))) ≡ handed asVector flatsOf (now (x .entry), now (p .entry)) (if-fitting (fitting n m i m k) (updateStep (sensorFlat n m (now (h .entry)) (now (r .entry))) (cut m (now (z .entry))) (estimateFlat n (now (x .entry)) (now (p .entry))))) ⌝ }
+    ensures { λ v. ⌜
+        (v, (now (x .exit), now (p .exit))) ≡ handed asVector flatsOf (now (x .entry), now (p .entry)) (if-fitting (fitting n m i m k)
+        (updateFlat n m (now (h .entry)) (now (r .entry)) (cut m (now (z .entry))) (now (x .entry)) (now (p .entry)))) ⌝ }
 {
     if is_fitting(n, m, i, m, k) {
         if both(n == 2, m == 1) {

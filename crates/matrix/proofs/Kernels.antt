@@ -9,7 +9,7 @@ use lib.ListN.{replicate, set}
 use lib.Ieee.{Float, nan}
 use Rattle.scalar.specs.Number.{_⊗_, +0}
 use Rattle.answer.specs.Table.{table}
-use Rattle.algebra.specs.Matrix.{at, cell, mat, sum, sumFrom}
+use Rattle.algebra.specs.Matrix.{at, cell, mat, sumOf, sumFrom}
 use Rattle.algebra.specs.Array.{cut, padRow, pad}
 use Rattle.answer.proofs.Tables.{getD-table, table-ext}
 use Rattle.algebra.proofs.Matrices.{sum-ext}
@@ -25,7 +25,7 @@ use Rattle.matrix.proofs.Sizes.{bounds}
 
 -- ---- v times four columns, written out term by term: term t of each sum is at v t times its number in R t
 abbrev pub sums : List Float → (ℕ → List Float) → ℕ → List Float
-sums v R n = table 4 (λ j. sum n (λ t. at v t ⊗ at (R t) j))
+sums v R n = table 4 (λ j. sumOf n (λ t. at v t ⊗ at (R t) j))
 
 pub sums-none : (v : List Float) (R : ℕ → List Float) → replicate 4 +0 ≡ sums v R 0
 unfolding sumFrom
@@ -45,8 +45,8 @@ pub combination-is : (v : List Float) (R : ℕ → List Float) (k : ℕ) {r0 r1 
 unfolding rowTimes
 combination-is v R k h e0 e1 e2 e3 p =
     p
-    ∙ (λ i. table 4 (λ j. sum k (λ t. at v t ⊗ cell (e0 i ∷ e1 i ∷ e2 i ∷ e3 i ∷ []) t j)))
-    ∙ table-ext 4 (λ j. sum k (λ t. at v t ⊗ cell (table 4 R) t j)) (λ j. sum k (λ t. at v t ⊗ at (R t) j))
+    ∙ (λ i. table 4 (λ j. sumOf k (λ t. at v t ⊗ cell (e0 i ∷ e1 i ∷ e2 i ∷ e3 i ∷ []) t j)))
+    ∙ table-ext 4 (λ j. sumOf k (λ t. at v t ⊗ cell (table 4 R) t j)) (λ j. sumOf k (λ t. at v t ⊗ at (R t) j))
     (λ j g. sum-ext k (λ t. at v t ⊗ cell (table 4 R) t j) (λ t. at v t ⊗ at (R t) j)
     (λ t l. ap (λ (r : List Float). at v t ⊗ at r j) (getD-table 4 R t [] (le-trans l h))))
 

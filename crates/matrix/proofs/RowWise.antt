@@ -6,7 +6,7 @@ use native.Mathlib.Nat.{le-trans}
 use lib.Ieee.{Float, nan}
 use Rattle.scalar.specs.Number.{_⊕_, _⊖_, _⊗_}
 use Rattle.answer.specs.Table.{table}
-use Rattle.algebra.specs.Matrix.{Vector, Matrix, at, row, cell, mat, sum, identity, transpose, add, sub, mul, vecAdd, vecSub}
+use Rattle.algebra.specs.Matrix.{Vector, Matrix, at, row, cell, mat, sumOf, identity, transpose, add, sub, mul, vecAdd, vecSub}
 use Rattle.algebra.specs.Array.{cut, used, padRow}
 use Rattle.matrix.proofs.Sizes.{Bounds}
 use Rattle.matrix.specs.Kernel.{rowTimes, rowTimesTransposed}
@@ -68,10 +68,10 @@ module _ {r c : ℕ} {A B : Matrix} {i : ℕ} {v w s : List Float} (a : RowOf r 
 module _ {r k c : ℕ} {A : Matrix} {i : ℕ} {v s : List Float} (a : RowOf r k A i v) (C : Bounds c) where
   -- g t j is what the code reads of B
   row-times : (B : Matrix) (g : ℕ → ℕ → Float) → ((t j : ℕ) → t < k → j < c → g t j ≡ cell B t j)
-      → s ≡ table 4 (λ j. sum k (λ t. at v t ⊗ g t j)) → RowOf r c (mul r k c A B) i s
+      → s ≡ table 4 (λ j. sumOf k (λ t. at v t ⊗ g t j)) → RowOf r c (mul r k c A B) i s
   unfolding mul
   row-times B g b e =
-      row-made r c (λ j. sum k (λ t. at v t ⊗ g t j)) (λ m j. sum k (λ t. cell A m t ⊗ cell B t j)) i (a .within) C
+      row-made r c (λ j. sumOf k (λ t. at v t ⊗ g t j)) (λ m j. sumOf k (λ t. cell A m t ⊗ cell B t j)) i (a .within) C
       (λ j m. sum-ext k (λ t. at v t ⊗ g t j) (λ t. cell A i t ⊗ cell B t j) (λ t n. ap₂ (λ (x y : Float). x ⊗ y) (at-row a t n) (b t j n m)))
       e
 

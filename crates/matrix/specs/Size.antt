@@ -38,30 +38,24 @@ sized n = leb 1 n && leb n 4
 
 -- r rows and c columns
 unfoldable pub shaped : ℕ → ℕ → Bool
-unfolding sized
 shaped r c = sized r && sized c
 
 -- both matrices have these sizes
 unfoldable pub alike : ℕ → ℕ → ℕ → ℕ → Bool
-unfolding shaped
 alike ar ac br bc = shaped ar ac && (eqb ar br && eqb ac bc)
 
 -- the first has as many columns as the second has rows
 unfoldable pub chained : ℕ → ℕ → ℕ → ℕ → Bool
-unfolding shaped
 chained ar ac br bc = shaped ar ac && (shaped br bc && eqb ac br)
 
 -- row i and column j lie in the used part
 unfoldable pub inside : ℕ → ℕ → ℕ → ℕ → Bool
-unfolding shaped
 inside r c i j = shaped r c && (ltb i r && ltb j c)
 
 -- both vectors have this many components
 unfoldable pub paired : ℕ → ℕ → Bool
-unfolding sized
 paired n m = sized n && eqb n m
 
 -- r rows and c columns, and as many columns as the vector has components
 unfoldable pub applicable : ℕ → ℕ → ℕ → Bool
-unfolding shaped
 applicable r c n = shaped r c && eqb c n

@@ -7,7 +7,7 @@ use lib.IntN.{pos}
 use lib.Ieee.{binary64, lt, ofInt}
 use Rattle.scalar.specs.Number.{_⊕_, _⊗_, _⊘_, +0, one, epsilon}
 use Rattle.answer.specs.Table.{table}
-use Rattle.algebra.specs.Matrix.{Vector, Matrix, at, cell, mat, sum, vecSub}
+use Rattle.algebra.specs.Matrix.{Vector, Matrix, at, cell, mat, sumOf, vecSub}
 use Rattle.filtering.specs.Filter.{Estimate, estimate}
 
 -- each model's estimate, the likelihood of the measurement under it, and its probability
@@ -25,13 +25,13 @@ uniform K = table K (λ j. one ⊘ ofInt binary64 (pos K))
 
 -- the models' states, each times its weight of w, summed
 unfoldable pub weighted : ℕ → ℕ → Bank → Vector → Vector
-weighted n K B w = table n (λ r. sum K (λ i. at (model B i .state) r ⊗ at w i))
+weighted n K B w = table n (λ r. sumOf K (λ i. at (model B i .state) r ⊗ at w i))
 
 -- ---- mixing: T i j is the probability of model j after model i
 
 -- each model's predicted probability
 unfoldable pub predicted : ℕ → Matrix → Vector → Vector
-predicted K T μ = table K (λ j. sum K (λ i. at μ i ⊗ cell T i j))
+predicted K T μ = table K (λ j. sumOf K (λ i. at μ i ⊗ cell T i j))
 
 -- the weight of each model in model j: all +0 where the predicted probability of j is not above EPSILON
 unfoldable pub weights : ℕ → Matrix → Vector → ℕ → Vector
@@ -48,7 +48,7 @@ spread n e x =
 unfoldable pub mixedEstimate : ℕ → ℕ → Bank → Vector → Estimate
 mixedEstimate n K B w =
     let x = weighted n K B w in
-    estimate x (mat n n (λ r c. sum K (λ i. cell (spread n (model B i) x) r c ⊗ at w i)))
+    estimate x (mat n n (λ r c. sumOf K (λ i. cell (spread n (model B i) x) r c ⊗ at w i)))
 
 unfoldable pub mixEstimates : ℕ → ℕ → Matrix → Bank → Bank
 mixEstimates n K T B = record {
@@ -61,7 +61,7 @@ mixEstimates n K T B = record {
 unfoldable pub updateProbabilities : ℕ → Bank → Bank
 updateProbabilities K B =
     let p = table K (λ k. at (B .probabilities) k ⊗ at (B .likelihoods) k) in
-    let s = sum K (at p) in
+    let s = sumOf K (at p) in
     record { estimates = B .estimates; likelihoods = B .likelihoods; probabilities = cond (lt s epsilon) (uniform K) (table K (λ k. at p k ⊘ s)) }
 
 -- the states by their probabilities

@@ -16,7 +16,7 @@ use lib.Ieee.Bits.{ofBits-toBits, ofBits-fits}
 use lib.Ieee.Positive.{positive}
 use Rattle.root.specs.Weights.{hidden, past53, past54, infinity}
 use Rattle.root.specs.Root.{root, rootOf, asWhole, isqrt, nearestRoot}
-use Rattle.root.specs.Nearest.{below, above, Nearest, CorrectlyRounded}
+use Rattle.root.specs.Nearest.{nextDown, nextUp, Nearest, CorrectlyRounded}
 use Rattle.root.proofs.Whole.{IsRoot, near-low, near-high}
 use Rattle.root.proofs.Scaled.{lead, split, rootOf-at, lead-bounds, root-of, root-bounds, four-pow}
 use Rattle.root.proofs.Shift.{Shifted, shifted}
@@ -103,30 +103,30 @@ module _ (q k : ℕ) (lo : hidden ≤ q) (hi : q < past53) (kl : 0 < k) (kh : k 
   R-asWhole : asWhole R ≡ q * 2 ^ k
   R-asWhole = asWhole-odd false q k
 
-  above-asWhole : asWhole (above R) ≡ (q + 1) * 2 ^ k
+  above-asWhole : asWhole (nextUp R) ≡ (q + 1) * 2 ^ k
   above-asWhole = ap (λ (b : ℕ). val (b + 1)) R-bits ∙ val-next q k lo hi (omega arith)
 
-  -- the neighbour below, where q is not the least of 53 digits
-  below-asWhole : (v : ℕ) → v + 1 ≡ q → hidden ≤ v → asWhole (below R) ≡ v * 2 ^ k
+  -- the neighbour nextDown, where q is not the least of 53 digits
+  below-asWhole : (v : ℕ) → v + 1 ≡ q → hidden ≤ v → asWhole (nextDown R) ≡ v * 2 ^ k
   below-asWhole v e l = ap (λ (b : ℕ). val (b - 1)) R-bits ∙ ap val (less v e) ∙ val-normal v k l (omega arith) (omega arith)
     where
       less : (v : ℕ) → v + 1 ≡ q → k * hidden + q - 1 ≡ k * hidden + v
       less v e = omega arith
 
   -- and where it is
-  below-edge : (j : ℕ) → j + 1 ≡ k → q ≡ hidden → asWhole (below R) ≡ (past53 - 1) * 2 ^ j
+  below-edge : (j : ℕ) → j + 1 ≡ k → q ≡ hidden → asWhole (nextDown R) ≡ (past53 - 1) * 2 ^ j
   below-edge j e f = ap (λ (b : ℕ). val (b - 1)) R-bits ∙ ap val (less j e f) ∙ val-normal (past53 - 1) j (lit≤ tt) (lit< tt) (omega arith)
     where
       less : (j : ℕ) → j + 1 ≡ k → q ≡ hidden → k * hidden + q - 1 ≡ j * hidden + (past53 - 1)
       less j e f = omega arith
 
   module _ (a s : ℕ) (is : IsRoot (a * 4) s) (near : q ≡ (s + 1) / 2) (large : (2 ^ 106) ≤ a * 4) where
-    under-at : a * 4 * 4 ^ k < (asWhole R + asWhole (above R)) * (asWhole R + asWhole (above R))
+    under-at : a * 4 * 4 ^ k < (asWhole R + asWhole (nextUp R)) * (asWhole R + asWhole (nextUp R))
     under-at =
-        subst (λ (x : ℕ). a * 4 * 4 ^ k < x) (sym (ap (λ (x : ℕ). (x + asWhole (above R)) * (x + asWhole (above R))) R-asWhole ∙ ap (λ (x : ℕ). (q * 2 ^ k + x) * (q * 2 ^ k + x)) above-asWhole ∙ square q (q + 1) k))
+        subst (λ (x : ℕ). a * 4 * 4 ^ k < x) (sym (ap (λ (x : ℕ). (x + asWhole (nextUp R)) * (x + asWhole (nextUp R))) R-asWhole ∙ ap (λ (x : ℕ). (q * 2 ^ k + x) * (q * 2 ^ k + x)) above-asWhole ∙ square q (q + 1) k))
         (mul-lt-mul-of-pos-right (near-high a s q is near) (four-pos k))
 
-    over-at : (asWhole (below R) + asWhole R) * (asWhole (below R) + asWhole R) < a * 4 * 4 ^ k
+    over-at : (asWhole (nextDown R) + asWhole R) * (asWhole (nextDown R) + asWhole R) < a * 4 * 4 ^ k
     over-at = elim (eq-or-lt-of-le lo) [ inl e ↦ edge (k - 1) (back k kl) (sym e) | inr l ↦ plain (q - 1) (pred q l) (pred-ge q l) ]
       where
         back : (k : ℕ) → 0 < k → k - 1 + 1 ≡ k
@@ -138,13 +138,13 @@ module _ (q k : ℕ) (lo : hidden ≤ q) (hi : q < past53) (kl : 0 < k) (kh : k 
         pred-ge : (q : ℕ) → hidden < q → hidden ≤ q - 1
         pred-ge q l = omega arith
 
-        plain : (v : ℕ) → v + 1 ≡ q → hidden ≤ v → (asWhole (below R) + asWhole R) * (asWhole (below R) + asWhole R) < a * 4 * 4 ^ k
+        plain : (v : ℕ) → v + 1 ≡ q → hidden ≤ v → (asWhole (nextDown R) + asWhole R) * (asWhole (nextDown R) + asWhole R) < a * 4 * 4 ^ k
         plain v e l =
             subst (λ (x : ℕ). x < a * 4 * 4 ^ k)
             (sym (ap (λ (x : ℕ). (x + asWhole R) * (x + asWhole R)) (below-asWhole v e l) ∙ ap (λ (x : ℕ). (v * 2 ^ k + x) * (v * 2 ^ k + x)) (R-asWhole ∙ ap (λ (x : ℕ). x * 2 ^ k) (sym e)) ∙ square v (v + 1) k))
             (mul-lt-mul-of-pos-right (near-low a s v is (e ∙ near)) (four-pos k))
 
-        edge : (j : ℕ) → j + 1 ≡ k → q ≡ hidden → (asWhole (below R) + asWhole R) * (asWhole (below R) + asWhole R) < a * 4 * 4 ^ k
+        edge : (j : ℕ) → j + 1 ≡ k → q ≡ hidden → (asWhole (nextDown R) + asWhole R) * (asWhole (nextDown R) + asWhole R) < a * 4 * 4 ^ k
         edge j e f =
             subst (λ (x : ℕ). x < a * 4 * 4 ^ k)
             (sym
@@ -180,8 +180,8 @@ nearest-at x is-pos p =
     record {
       is-positive = positive-odd q k (lt-of-lt-of-le (lit< tt) lo);
       is-held = R-fits q k lo hi kl kh;
-      over = subst (λ (w : ℕ). (asWhole (below (odd 53 false q k 1074)) + asWhole (odd 53 false q k 1074)) * (asWhole (below (odd 53 false q k 1074)) + asWhole (odd 53 false q k 1074)) < w) four (over-at q k lo hi kl kh a s (root-of (a * 4) b) refl (b .0));
-      under = subst (λ (w : ℕ). w < (asWhole (odd 53 false q k 1074) + asWhole (above (odd 53 false q k 1074))) * (asWhole (odd 53 false q k 1074) + asWhole (above (odd 53 false q k 1074)))) four (under-at q k lo hi kl kh a s (root-of (a * 4) b) refl (b .0));
+      over = subst (λ (w : ℕ). (asWhole (nextDown (odd 53 false q k 1074)) + asWhole (odd 53 false q k 1074)) * (asWhole (nextDown (odd 53 false q k 1074)) + asWhole (odd 53 false q k 1074)) < w) four (over-at q k lo hi kl kh a s (root-of (a * 4) b) refl (b .0));
+      under = subst (λ (w : ℕ). w < (asWhole (odd 53 false q k 1074) + asWhole (nextUp (odd 53 false q k 1074))) * (asWhole (odd 53 false q k 1074) + asWhole (nextUp (odd 53 false q k 1074)))) four (under-at q k lo hi kl kh a s (root-of (a * 4) b) refl (b .0));
     }
   where
     half-lo : (s : ℕ) → past53 ≤ s → hidden ≤ (s + 1) / 2
@@ -236,7 +236,7 @@ pub is-root : (x r : Float) → T (fits binary64 x) → T (positive x) → Neare
 is-root x r h p n = only-one x r (root x) n (nearest x h p)
 
 -- ---- the neighbours are the neighbours: no other value lies nearer to r than they do
-pub neighbours : (r y : Float) → T (fits binary64 r) → T (positive r) → T (fits binary64 y) → T (positive y) → (r ≡ y → ⊥) → (asWhole y ≤ asWhole (below r)) ⊎ (asWhole (above r) ≤ asWhole y)
+pub neighbours : (r y : Float) → T (fits binary64 r) → T (positive r) → T (fits binary64 y) → T (positive y) → (r ≡ y → ⊥) → (asWhole y ≤ asWhole (nextDown r)) ⊎ (asWhole (nextUp r) ≤ asWhole y)
 neighbours r y rf rp yf yp n =
     let b = toBits binary64 r in
     let c = toBits binary64 y in

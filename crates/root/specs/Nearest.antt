@@ -9,19 +9,19 @@ use lib.Ieee.Positive.{positive}
 use Rattle.root.specs.Root.{asWhole}
 
 -- the neighbours of a positive value: adjacent values have adjacent bit patterns
-abbrev pub below : Float → Float
-below r = ofBits binary64 (toBits binary64 r - 1)
+abbrev pub nextDown : Float → Float
+nextDown r = ofBits binary64 (toBits binary64 r - 1)
 
-abbrev pub above : Float → Float
-above r = ofBits binary64 (toBits binary64 r + 1)
+abbrev pub nextUp : Float → Float
+nextUp r = ofBits binary64 (toBits binary64 r + 1)
 
 -- r is the value nearest the exact root of x: x lies strictly between the squares of the midpoints between r and its two neighbours.
 -- In whole numbers: twice a midpoint is asWhole r + asWhole (neighbour), in units of 2 ^ -1074, and 4 * x is 4 * asWhole x * 2 ^ 1074, in units of 2 ^ -2148.
 pub record Nearest (x r : Float) : Type 0 where
   pub is-positive : T (positive r)
   pub is-held : T (fits binary64 r)
-  pub over : (asWhole (below r) + asWhole r) * (asWhole (below r) + asWhole r) < 4 * (asWhole x * 2 ^ 1074)
-  pub under : 4 * (asWhole x * 2 ^ 1074) < (asWhole r + asWhole (above r)) * (asWhole r + asWhole (above r))
+  pub over : (asWhole (nextDown r) + asWhole r) * (asWhole (nextDown r) + asWhole r) < 4 * (asWhole x * 2 ^ 1074)
+  pub under : 4 * (asWhole x * 2 ^ 1074) < (asWhole r + asWhole (nextUp r)) * (asWhole r + asWhole (nextUp r))
 
 pub record CorrectlyRounded (f : Float → Float) : Type 0 where
   -- +0 and -0 give themselves

@@ -13,9 +13,12 @@ use Rattle.answer.specs.Told.{statusOf}
 use Rattle.algebra.specs.Array.{used}
 use Rattle.filtering.specs.Filter.{Estimate}
 use Rattle.layout.specs.Layout.{joined, placed, pairLength}
+use Rattle.matrix.specs.declared.Size.{Size}
+use Rattle.matrix.specs.Size.{count, part}
+use Rattle.steps.specs.Step.{Rows, estimateRows, arraysOf}
 use Rattle.steps.specs.declared.road.Pair.{Pair}
 use Rattle.steps.specs.Road.{estimateOf}
-use Rattle.smoothing.specs.Smoother.{Slot, smooth}
+use Rattle.smoothing.specs.Smoother.{Slot, smoothSlot, smooth}
 use Rattle.rts_pass.specs.Buffer.{dutyOf, pairNumbers, outputOf, buffered}
 
 -- ---- the call
@@ -40,6 +43,10 @@ smoothOf n T c b f o = smoothLeft (λ l. l) o (smoothInto n T c b f o)
 -- a slot of two states by its numbers: the filtered pair e and the predicted pair y
 abbrev pub slotOfTwo : Pair → Pair → Slot
 slotOfTwo e y = record { filtered = estimateOf e; predicted = estimateOf y }
+
+-- a slot before one whose smoothed pair stands in the arrays x and p, with the transition in f: what is told, and what they hold in the end
+abbrev pub smoothRows : Size → Rows → Slot → List Float → Rows → Status × (List Float × Rows)
+smoothRows n f s x p = smoothLeft arraysOf (x, p) (smoothSlot (count n) (part n n f) s (estimateRows n x p))
 
 -- the pass: its status, and where it is answered the pairs in front of what a buffer held
 pub record Passed (a : Answer (List Estimate)) (before after : List Float) (s : Status) : Type 0 where

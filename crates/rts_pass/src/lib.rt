@@ -7,13 +7,12 @@ ghost use Prim.Native.Nat.{_+_, _*_, _≤_};
 ghost use lib.ListN.{length};
 ghost use Rattle.matrix.specs.Size.{count, part, sized};
 ghost use Rattle.layout.specs.Layout.{matrixAt, placed, pairLength, stride};
-ghost use Rattle.steps.specs.Step.{estimateRows, arraysOf};
 ghost use Rattle.steps.specs.Road.{matrixOf, estimateOf};
 ghost use Rattle.smoothing.specs.Smoother.{smoothedPair, smoothSlot, smoothSlots};
 ghost use Rattle.rts_pass.specs.Buffer.{pairAt, slotFrom, slotsOf, pairNumbers, roomy, counted, buffered};
 ghost use Rattle.smoothing.specs.Demand3.{Demand3};
 ghost use Rattle.rts_pass.specs.Call.{duty, run};
-ghost use Rattle.rts_pass.specs.Pass.{slotOfTwo, smoothable, smoothOf, smoothLeft, Passed};
+ghost use Rattle.rts_pass.specs.Pass.{slotOfTwo, smoothable, smoothOf, smoothLeft, smoothRows, Passed};
 use answer::Status;
 use matrix::Size;
 use matrix::both;
@@ -127,7 +126,9 @@ fn corrected_two(e: Pair, y: Pair, g: Two, next: Pair) -> Pair
 
 // The slot of the filtered pair e and the predicted pair y, with the transition f, before a slot whose smoothed pair is next.
 fn smooth_two(e: Pair, y: Pair, f: Two, next: Pair) -> PairSmoothed
-    ensures { λ v. ⌜ (v .answer, estimateOf (v .pair)) ≡ smoothLeft (λ s. s) (estimateOf next) (smoothSlot 2 (matrixOf f) (slotOfTwo e y) (estimateOf next)) ⌝ }
+    ensures { λ v. ⌜
+        (v .answer, estimateOf (v .pair))
+        ≡ smoothLeft (λ s. s) (estimateOf next) (smoothSlot 2 (matrixOf f) (slotOfTwo e y) (estimateOf next)) ⌝ }
 {
     let q = y.p;
     let p = e.p;
@@ -170,7 +171,9 @@ fn step<'a>(
     p: &mut [[f64; 4]; 4],
 ) -> Status
     requires { ⌜ k + stride (count n) ≤ length (now slots) ⌝ }
-    ensures { λ t. ⌜ (t, (now (x .exit), now (p .exit))) ≡ smoothLeft arraysOf (now (x .entry), now (p .entry)) (smoothSlot (count n) (part n n (now (f .entry))) (slotFrom (count n) (now (slots .entry)) k) (estimateRows n (now (x .entry)) (now (p .entry)))) ⌝ }
+    ensures { λ t. ⌜
+        (t, (now (x .exit), now (p .exit)))
+        ≡ smoothRows n (now (f .entry)) (slotFrom (count n) (now (slots .entry)) k) (now (x .entry)) (now (p .entry)) ⌝ }
 {
     let size = number(n);
     let predicted = k + (size + size * size);
@@ -215,7 +218,9 @@ fn smooth_slots_two<'a>(
     out: &mut [f64],
 ) -> Status
     requires { ⌜ (1 ≤ stored) × (stored ≤ 64) × (stored * 12 ≤ length (now slots)) × (stored * 6 ≤ length (now out)) ⌝ }
-    ensures { λ s. ⌜ Passed (smoothSlots 2 (part Size.Two Size.Two (now (f .entry))) (slotsOf 2 (now (slots .entry)) stored)) (now (out .entry)) (now (out .exit)) s ⌝ }
+    ensures { λ s. ⌜
+        Passed (smoothSlots 2 (part Size.Two Size.Two (now (f .entry))) (slotsOf 2 (now (slots .entry)) stored))
+        (now (out .entry)) (now (out .exit)) s ⌝ }
 {
     let t = Two {
         a: f[0][0],
@@ -254,8 +259,12 @@ fn smooth_slots<'a>(
     f: &'a [[f64; 4]; 4],
     out: &mut [f64],
 ) -> Status
-    requires { ⌜ (1 ≤ stored) × (stored ≤ 64) × (stored * stride (count n) ≤ length (now slots)) × (stored * pairLength (count n) ≤ length (now out)) ⌝ }
-    ensures { λ s. ⌜ Passed (smoothSlots (count n) (part n n (now (f .entry))) (slotsOf (count n) (now (slots .entry)) stored)) (now (out .entry)) (now (out .exit)) s ⌝ }
+    requires { ⌜
+        (1 ≤ stored) × (stored ≤ 64)
+        × (stored * stride (count n) ≤ length (now slots)) × (stored * pairLength (count n) ≤ length (now out)) ⌝ }
+    ensures { λ s. ⌜
+        Passed (smoothSlots (count n) (part n n (now (f .entry))) (slotsOf (count n) (now (slots .entry)) stored))
+        (now (out .entry)) (now (out .exit)) s ⌝ }
 {
     let size = number(n);
     if size == 2 {

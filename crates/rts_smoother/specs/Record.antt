@@ -60,8 +60,8 @@ stateFrom n x p y q = stateResult (where-sized (sized n) (recordOf n (slotOfRows
 abbrev pub smoother : ℕ → ℕ → ℕ → RtsSmoother
 smoother n T c = record { n = n; room = T; count = c }
 
-abbrev pub fits : RtsSmoother → Bool
-fits m = counted (m .n) (m .room) (m .count)
+abbrev pub wellCounted : RtsSmoother → Bool
+wellCounted m = counted (m .n) (m .room) (m .count)
 
 abbrev pub stored : RtsSmoother → Answer RtsSmoother → Stored
 stored m a = let w = handed statusOf (λ o. o) m (into a) in record { answer = w .0; smoother = w .1 }
@@ -71,17 +71,17 @@ abbrev pub newOf : ℕ → ℕ → Stored
 newOf n T = stored (smoother 0 0 0) (where-sized (counted n T 0) (smoother n T 0))
 
 abbrev pub resetOf : RtsSmoother → Stored
-resetOf m = stored m (where-sized (fits m) (smoother (m .n) (m .room) 0))
+resetOf m = stored m (where-sized (wellCounted m) (smoother (m .n) (m .room) 0))
 
 abbrev pub asCount : Answer ℕ → CountResult
 asCount (refused k) = Count.Refused k
 asCount (answered c) = Count.Value c
 
 abbrev pub lenOf : RtsSmoother → CountResult
-lenOf m = asCount (where-sized (fits m) (m .count))
+lenOf m = asCount (where-sized (wellCounted m) (m .count))
 
 abbrev pub isEmptyOf : RtsSmoother → TestResult
-isEmptyOf m = asTest (where-sized (fits m) (eqb (m .count) 0))
+isEmptyOf m = asTest (where-sized (wellCounted m) (eqb (m .count) 0))
 
 -- ---- calls that are lent a buffer: what they tell, and what the buffer holds in the end
 

@@ -10,7 +10,7 @@ use Rattle.algebra.specs.Matrix.{Matrix, sumFrom, mul, matvec, transpose, add, 
 use Rattle.algebra.specs.Inverse.{inv}
 use Rattle.matrix.specs.declared.ScalarResult.{ScalarResult}
 use Rattle.matrix.specs.declared.ScalarResult.the-variants as Scalar
-use Rattle.inverse.specs.Two.{reciprocal}
+use Rattle.inverse.specs.Two.{invNumber}
 use Rattle.inverse.proofs.Two.{number-is}
 use Rattle.filtering.specs.Filter.{Estimate, propagated, innovation}
 use Rattle.filtering.specs.Linear.{correction, update}
@@ -28,14 +28,14 @@ module _ (h0 h1 r z : Float) (e : Pair) where
   abbrev of : Answer Matrix → ScalarResult × Estimate
   of a = updatedOf (estimateOf e) (a else-leave unchanged then correction (sensorOf h0 h1 r) (z ∷ []) (estimateOf e))
 
-  inverted : {a : Answer Float} → reciprocal variance ≡ a → of (mapped oneByOne a) ≡ updatedOf (estimateOf e) (update (sensorOf h0 h1 r) (z ∷ []) (estimateOf e))
+  inverted : {a : Answer Float} → invNumber variance ≡ a → of (mapped oneByOne a) ≡ updatedOf (estimateOf e) (update (sensorOf h0 h1 r) (z ∷ []) (estimateOf e))
   unfolding update propagated sumFrom mul transpose add
   inverted q = sym (ap of (number-is variance ∙ ap (mapped oneByOne) q))
 
-  pub when-answered : {w : Float} {g : Estimate} → reciprocal variance ≡ answered w → g ≡ correctedOf h0 h1 (estimateOf e) residual w
+  pub when-answered : {w : Float} {g : Estimate} → invNumber variance ≡ answered w → g ≡ correctedOf h0 h1 (estimateOf e) residual w
       → (Scalar.Value residual, g) ≡ updatedOf (estimateOf e) (update (sensorOf h0 h1 r) (z ∷ []) (estimateOf e))
   unfolding correction innovation vecSub matvec sumFrom
   when-answered q f = (λ i. (Scalar.Value residual, f i)) ∙ inverted q
 
-  pub when-refused : {k : ℕ} → reciprocal variance ≡ refused k → (Scalar.Refused k, estimateOf e) ≡ updatedOf (estimateOf e) (update (sensorOf h0 h1 r) (z ∷ []) (estimateOf e))
+  pub when-refused : {k : ℕ} → invNumber variance ≡ refused k → (Scalar.Refused k, estimateOf e) ≡ updatedOf (estimateOf e) (update (sensorOf h0 h1 r) (z ∷ []) (estimateOf e))
   when-refused q = inverted q

@@ -7,7 +7,7 @@ use lib.Ieee.{Float, nan}
 use Rattle.scalar.specs.Number.{_⊕_, _⊖_, _⊗_}
 use Rattle.answer.specs.Table.{table}
 use Rattle.answer.proofs.Tables.{getD-table, table-ext}
-use Rattle.algebra.specs.Matrix.{Vector, at, cell, sum, vecAdd, vecSub, matvec}
+use Rattle.algebra.specs.Matrix.{Vector, at, cell, sumOf, vecAdd, vecSub, matvec}
 use Rattle.algebra.specs.Array.{cut, used, padRow}
 use Rattle.matrix.proofs.Sizes.{Bounds}
 use Rattle.matrix.specs.Kernel.{rowTimesTransposed}
@@ -46,7 +46,7 @@ pub vector-of-product : {r : ℕ} (c : ℕ) (a : List (List Float)) (v : List Fl
 unfolding rowTimesTransposed
 vector-of-product {r} c a v R e = record {
   size = R;
-  is = made r (λ i. sum c (λ t. at v t ⊗ cell a i t)) (λ i. sum c (λ t. at v t ⊗ cell a i t)) R (λ j h. refl) e
+  is = made r (λ i. sumOf c (λ t. at v t ⊗ cell a i t)) (λ i. sumOf c (λ t. at v t ⊗ cell a i t)) R (λ j h. refl) e
       ∙ sym (matvec-transposed-used r c a v);
 }
 

@@ -13,6 +13,7 @@ use Rattle.matrix.specs.declared.VectorResult.{VectorResult}
 use Rattle.matrix.specs.Size.{sized, count, front, part}
 use Rattle.matrix.specs.Result.{asVector}
 use Rattle.filtering.specs.Filter.{Motion, Sensor, Estimate, estimate}
+use Rattle.filtering.specs.Linear.{predict, update}
 
 abbrev pub Rows : Type 0
 Rows = List (List Float)
@@ -45,5 +46,12 @@ arraysOf e = (padRow (e .state), pad (e .covariance))
 abbrev pub leftRows : {R : Type 0} → List Float → Rows → Outcome Estimate R → List Float × Rows
 leftRows x p o = standing arraysOf (x, p) (o .left)
 
+-- what x and p hold after a predict of the linear filter, and what an update tells beside it
+abbrev pub predictRows : Size → Size → Rows → Rows → Rows → List Float → List Float → Rows → List Float × Rows
+predictRows n i a b q u x p = leftRows x p (predict (motionRows n i a b q) (front i u) (estimateRows n x p))
+
 abbrev pub updatedRows : List Float → Rows → Outcome Estimate Vector → VectorResult × (List Float × Rows)
 updatedRows x p o = handed asVector arraysOf (x, p) o
+
+abbrev pub updateRows : Size → Size → Rows → Rows → List Float → List Float → Rows → VectorResult × (List Float × Rows)
+updateRows n m h r z x p = updatedRows x p (update (sensorRows n m h r) (front m z) (estimateRows n x p))

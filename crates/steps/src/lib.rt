@@ -6,8 +6,7 @@ ghost use mathlib.Core.List.{[]};
 ghost use Rattle.algebra.specs.Array.{padRow, pad};
 ghost use Rattle.matrix.specs.Size.{count, front, part};
 ghost use Rattle.filtering.specs.Filter.{predictedState, propagated as propagatedOf, innovation as innovationOf, gain as gainOf, correctedState, correctedCovariance};
-ghost use Rattle.filtering.specs.Linear.{predict as predictOf, update as updateOf};
-ghost use Rattle.steps.specs.Step.{wellSized, fitting, motionRows, sensorRows, estimateRows, leftRows, updatedRows};
+ghost use Rattle.steps.specs.Step.{wellSized, fitting, motionRows, predictRows, updateRows};
 use answer::Status;
 use matrix::Size;
 use matrix::VectorResult;
@@ -47,7 +46,8 @@ pub fn predicted_state<'a>(
     n: Size,
     i: Size,
 ) -> [f64; 4]
-    ensures { λ v. ⌜ v ≡ padRow (predictedState (motionRows n i (now (a .entry)) (now (b .entry)) []) (front i (now (u .entry))) (front n (now (x .entry)))) ⌝ }
+    ensures { λ v. ⌜
+        v ≡ padRow (predictedState (motionRows n i (now (a .entry)) (now (b .entry)) []) (front i (now (u .entry))) (front n (now (x .entry)))) ⌝ }
 {
     let ax = kernel::row_product_transposed(*x, a, n);
     let bu = kernel::row_product_transposed(*u, b, i);
@@ -115,7 +115,8 @@ pub fn corrected_state<'a>(
     n: Size,
     m: Size,
 ) -> [f64; 4]
-    ensures { λ v. ⌜ v ≡ padRow (correctedState (count n) (count m) (part n m (now (k .entry))) (front m (now (y .entry))) (front n (now (x .entry)))) ⌝ }
+    ensures { λ v. ⌜
+        v ≡ padRow (correctedState (count n) (count m) (part n m (now (k .entry))) (front m (now (y .entry))) (front n (now (x .entry)))) ⌝ }
 {
     let ky = kernel::row_product_transposed(*y, k, m);
     kernel::leading(kernel::row_sum(*x, ky), n)
@@ -129,7 +130,8 @@ pub fn corrected_covariance<'a>(
     n: Size,
     m: Size,
 ) -> [[f64; 4]; 4]
-    ensures { λ v. ⌜ v ≡ pad (correctedCovariance (count n) (count m) (part n m (now (k .entry))) (part m n (now (h .entry))) (part n n (now (p .entry)))) ⌝ }
+    ensures { λ v. ⌜
+        v ≡ pad (correctedCovariance (count n) (count m) (part n m (now (k .entry))) (part m n (now (h .entry))) (part n n (now (p .entry)))) ⌝ }
 {
     let e = kernel::identity_rows();
     let rows = number(n);
@@ -155,7 +157,9 @@ pub fn predict<'a>(
     x: &mut [f64; 4],
     p: &mut [[f64; 4]; 4],
 )
-    ensures { λ r. ⌜ (now (x .exit), now (p .exit)) ≡ leftRows (now (x .entry)) (now (p .entry)) (predictOf (motionRows n i (now (a .entry)) (now (b .entry)) (now (q .entry))) (front i (now (u .entry))) (estimateRows n (now (x .entry)) (now (p .entry)))) ⌝ }
+    ensures { λ r. ⌜
+        (now (x .exit), now (p .exit))
+        ≡ predictRows n i (now (a .entry)) (now (b .entry)) (now (q .entry)) (now (u .entry)) (now (x .entry)) (now (p .entry)) ⌝ }
 {
     *x = predicted_state(a, b, x, u, n, i);
     *p = propagated(a, p, q, n, n);
@@ -172,7 +176,9 @@ pub fn update<'a>(
     x: &mut [f64; 4],
     p: &mut [[f64; 4]; 4],
 ) -> VectorResult
-    ensures { λ v. ⌜ (v, (now (x .exit), now (p .exit))) ≡ updatedRows (now (x .entry)) (now (p .entry)) (updateOf (sensorRows n m (now (h .entry)) (now (r .entry))) (front m (now (z .entry))) (estimateRows n (now (x .entry)) (now (p .entry)))) ⌝ }
+    ensures { λ v. ⌜
+        (v, (now (x .exit), now (p .exit)))
+        ≡ updateRows n m (now (h .entry)) (now (r .entry)) (now (z .entry)) (now (x .entry)) (now (p .entry)) ⌝ }
 {
     let s = propagated(h, p, r, m, n);
     let w = inverse::inverse_of(&s, m);

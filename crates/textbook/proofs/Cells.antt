@@ -18,10 +18,10 @@ module _ (N : Arithmetic) where
       table-ext r (λ i. table c (λ j. f i j)) (λ i. table c (λ j. g i j)) (λ i hi. table-ext c (λ j. f i j) (λ j. g i j) (λ j hj. e i j hi hj))
 
 module _ (N : Arithmetic) (X : Exact N) (n : ℕ) (L : M.Mat N) where
-  pub gram-is : (i j : ℕ) → i < n → j < n → M.gram N n L i j ≡ M.sum N n (λ t. N .times (M.cell N L i t) (M.cell N L j t))
+  pub gram-is : (i j : ℕ) → i < n → j < n → M.gram N n L i j ≡ M.sumOf N n (λ t. N .times (M.cell N L i t) (M.cell N L j t))
   unfolding M.mul M.transpose
   gram-is i j hi hj =
-      cell-mat N n n (λ i j. M.sum N n (λ t. N .times (M.cell N L i t) (M.cell N (M.transpose N n n L) t j))) i j hi hj
+      cell-mat N n n (λ i j. M.sumOf N n (λ t. N .times (M.cell N L i t) (M.cell N (M.transpose N n n L) t j))) i j hi hj
       ∙ F.sum-ext N X n (λ t. N .times (M.cell N L i t) (M.cell N (M.transpose N n n L) t j)) (λ t. N .times (M.cell N L i t) (M.cell N L j t))
       (λ t l. ap (N .times (M.cell N L i t)) (cell-mat N n n (λ i j. M.cell N L j i) t j l hj))
 

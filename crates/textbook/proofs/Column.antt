@@ -24,7 +24,7 @@ module _ (N : Arithmetic) (X : Exact N) (n : ℕ) where
   times = N .times
 
   abbrev pub G : M.Mat N → ℕ → ℕ → N .Num
-  G L i j = M.sum N n (λ t. times (M.cell N L i t) (M.cell N L j t))
+  G L i j = M.sumOf N n (λ t. times (M.cell N L i t) (M.cell N L j t))
 
   -- the vector, from row k on
   abbrev pub from : ℕ → M.Vec N → ℕ → N .Num

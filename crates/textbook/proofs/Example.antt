@@ -17,11 +17,11 @@ use Rattle.textbook.specs.Fractions.{fractions, divisor, lowest}
 use Rattle.textbook.specs.Example.{+, −, half, oneByOne, twoByTwo, estimate, information, squared, wanted, byRust, Example}
 
 wanted-is : wanted ≡ twoByTwo (+ 16) (− 60) (− 60) (+ 3825)
-unfolding divisor lowest M.sum M.mul M.transpose M.sub
+unfolding divisor lowest M.sumOf M.mul M.transpose M.sub
 wanted-is = refl
 
 rust-squared : squared byRust ≡ twoByTwo (+ 16) (− 60) (− 60) (+ 4194)
-unfolding divisor lowest M.sum M.mul M.transpose
+unfolding divisor lowest M.sumOf M.mul M.transpose
 rust-squared = refl
 
 last : M.Mat fractions → ℕ
@@ -32,29 +32,29 @@ unfolding last
 other e = let f : _≡_ {A = ℕ} 4194 3825 = ap last e in omega arith
 
 factor : C.cholesky fractions 2 (twoByTwo (+ 4) (+ 2) (+ 2) (+ 5)) ≡ answered (twoByTwo (+ 2) (+ 0) (+ 1) (+ 2))
-unfolding divisor lowest isqrt M.sum M.dot C.diagonalOf C.leftCells C.factorRow C.factorRows C.cholesky
+unfolding divisor lowest isqrt M.sumOf M.dot C.diagonalOf C.leftCells C.factorRow C.factorRows C.cholesky
 factor = refl
 
 no-factor : C.cholesky fractions 2 (twoByTwo (+ 1) (+ 1) (+ 1) (+ 1)) ≡ refused 4
-unfolding divisor lowest isqrt M.sum M.dot C.diagonalOf C.leftCells C.factorRow C.factorRows C.cholesky
+unfolding divisor lowest isqrt M.sumOf M.dot C.diagonalOf C.leftCells C.factorRow C.factorRows C.cholesky
 no-factor = refl
 
 linear-update : Li.update fractions 1 1 (oneByOne (+ 1)) (oneByOne (+ 2)) (+ 5 ∷ []) (estimate (+ 1) (+ 2))
     ≡ done (+ 4 ∷ []) (estimate (+ 3) (+ 1))
-unfolding divisor lowest M.sum M.mul M.transpose M.add M.sub M.identity M.matvec M.vecAdd M.vecSub
+unfolding divisor lowest M.sumOf M.mul M.transpose M.add M.sub M.identity M.matvec M.vecAdd M.vecSub
     E.pivotRow E.swapped E.scaledRow E.reduced E.exchanged E.cleared E.column E.columns E.inv
     Li.propagated Li.innovation Li.gain Li.correctedState Li.correctedCovariance Li.corrected Li.update
 linear-update = refl
 
 information-update : In.update fractions 1 1 (oneByOne (+ 1)) (oneByOne (+ 2)) (+ 5 ∷ []) (information half half)
     ≡ done (+ 2 ∷ []) (information (+ 1) (+ 3))
-unfolding divisor lowest M.sum M.mul M.transpose M.add M.identity M.matvec M.vecAdd M.vecSub
+unfolding divisor lowest M.sumOf M.mul M.transpose M.add M.identity M.matvec M.vecAdd M.vecSub
     E.pivotRow E.swapped E.scaledRow E.reduced E.exchanged E.cleared E.column E.columns E.inv
     Li.innovation In.informedMatrix In.informedVector In.informed In.covariance In.state In.update
 information-update = refl
 
 pub example : Example
-unfolding divisor lowest isqrt M.sum M.mul M.transpose M.sub
+unfolding divisor lowest isqrt M.sumOf M.mul M.transpose M.sub
     D.square D.turnedDiagonal D.turnedCell D.turnedFactor D.turnedVector D.rotate D.rotated
 example = record {
   factor = factor;

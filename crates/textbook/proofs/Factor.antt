@@ -47,15 +47,15 @@ module _ (N : Arithmetic) (X : Exact N) (n : ℕ) where
     one-more i t h = List·getD-append (C.leftCells N a L i) _ (N .none) t (omega (arith, length-left a L i))
 
     last-left : (i : ℕ) → left (suc i) i
-        ≡ N .over (N .minus (M.at N a i) (M.sum N i (λ t. N .times (left i t) (M.cell N L i t)))) (M.cell N L i i)
+        ≡ N .over (N .minus (M.at N a i) (M.sumOf N i (λ t. N .times (left i t) (M.cell N L i t)))) (M.cell N L i i)
     unfolding C.leftCells M.dot
     last-left i = getD-at (C.leftCells N a L i) _ [] (N .none) i (length-left a L i)
 
     -- the sum up to the diagonal of row j is the cell of A
-    own-product : (i : ℕ) → (M.cell N L i i ≡ N .nought → ⊥) → M.sum N (suc i) (λ t. N .times (left (suc i) t) (M.cell N L i t)) ≡ M.at N a i
-    unfolding M.sum
+    own-product : (i : ℕ) → (M.cell N L i i ≡ N .nought → ⊥) → M.sumOf N (suc i) (λ t. N .times (left (suc i) t) (M.cell N L i t)) ≡ M.at N a i
+    unfolding M.sumOf
     own-product i d =
-        let s = M.sum N i (λ t. N .times (left i t) (M.cell N L i t)) in
+        let s = M.sumOf N i (λ t. N .times (left i t) (M.cell N L i t)) in
         ap₂ (N .plus)
         (F.sum-ext N X i (λ t. N .times (left (suc i) t) (M.cell N L i t)) (λ t. N .times (left i t) (M.cell N L i t))
         (λ t q. ap (λ (x : N .Num). N .times x (M.cell N L i t)) (one-more i t q)))
@@ -64,11 +64,11 @@ module _ (N : Arithmetic) (X : Exact N) (n : ℕ) where
         ∙ X .minus-plus (M.at N a i) s
 
     left-product : (i j : ℕ) → j < i → (M.cell N L j j ≡ N .nought → ⊥)
-        → M.sum N (suc j) (λ t. N .times (left i t) (M.cell N L j t)) ≡ M.at N a j
+        → M.sumOf N (suc j) (λ t. N .times (left i t) (M.cell N L j t)) ≡ M.at N a j
     left-product zero j h d = absurd (omega arith)
     left-product (suc i) j h d =
         ⊎-elim
-        (λ e. subst⁻¹ (λ k. M.sum N (suc k) (λ t. N .times (left (suc i) t) (M.cell N L k t)) ≡ M.at N a k) e
+        (λ e. subst⁻¹ (λ k. M.sumOf N (suc k) (λ t. N .times (left (suc i) t) (M.cell N L k t)) ≡ M.at N a k) e
         (own-product i (λ z. d (ap (λ k. M.cell N L k k) e ∙ z))))
         (λ l. F.sum-ext N X (suc j) (λ t. N .times (left (suc i) t) (M.cell N L j t)) (λ t. N .times (left i t) (M.cell N L j t))
         (λ t q. ap (λ (x : N .Num). N .times x (M.cell N L j t)) (one-more i t (omega arith)))
@@ -80,7 +80,7 @@ module _ (N : Arithmetic) (X : Exact N) (n : ℕ) where
     pub count : length L ≡ i
     pub lower : (k j : ℕ) → k < i → k < j → j < n → M.cell N L k j ≡ N .nought
     pub diagonal : (k : ℕ) → k < i → M.cell N L k k ≡ N .nought → ⊥
-    pub product : (k j : ℕ) → k < i → j ≤ k → M.sum N (suc j) (λ t. N .times (M.cell N L k t) (M.cell N L j t)) ≡ M.cell N A k j
+    pub product : (k j : ℕ) → k < i → j ≤ k → M.sumOf N (suc j) (λ t. N .times (M.cell N L k t) (M.cell N L j t)) ≡ M.cell N A k j
 
   module _ (A : M.Mat N) (i : ℕ) (hi : i < n) (L : M.Mat N) (r : Rows A i L) where
     abbrev a : M.Vec N
@@ -127,14 +127,14 @@ module _ (N : Arithmetic) (X : Exact N) (n : ℕ) where
           (sym (X .root-times rest (X .above rest passes)) ∙ ap (N .times x) e ∙ F.times-nought N X x) ∙ X .not-above)
 
       -- the row's own sums
-      before : (j : ℕ) → j < i → M.sum N (suc j) (λ t. N .times (M.cell N L′ i t) (M.cell N L′ j t)) ≡ M.cell N A i j
+      before : (j : ℕ) → j < i → M.sumOf N (suc j) (λ t. N .times (M.cell N L′ i t) (M.cell N L′ j t)) ≡ M.cell N A i j
       before j h =
           F.sum-ext N X (suc j) (λ t. N .times (M.cell N L′ i t) (M.cell N L′ j t)) (λ t. N .times (M.at N v t) (M.cell N L j t))
           (λ t l. ap₂ (N .times) (here t ∙ w-left t (omega arith)) (above j t h))
           ∙ left-product a L i j h (r .diagonal j h)
 
-      own : M.sum N (suc i) (λ t. N .times (M.cell N L′ i t) (M.cell N L′ i t)) ≡ M.cell N A i i
-      unfolding M.sum M.dot
+      own : M.sumOf N (suc i) (λ t. N .times (M.cell N L′ i t) (M.cell N L′ i t)) ≡ M.cell N A i i
+      unfolding M.sumOf M.dot
       own =
           let s = M.dot N i v v in
           ap₂ (N .plus)
@@ -156,16 +156,16 @@ module _ (N : Arithmetic) (X : Exact N) (n : ℕ) where
             (λ q. r .diagonal k q (sym (above k k q) ∙ z))
             (eq-or-lt-of-le (le-of-suc-le-suc h));
         product = λ k j h l. ⊎-elim
-            (λ e. subst⁻¹ (λ q. M.sum N (suc j) (λ t. N .times (M.cell N L′ q t) (M.cell N L′ j t)) ≡ M.cell N A q j) e (in-row j (omega arith)))
+            (λ e. subst⁻¹ (λ q. M.sumOf N (suc j) (λ t. N .times (M.cell N L′ q t) (M.cell N L′ j t)) ≡ M.cell N A q j) e (in-row j (omega arith)))
             (λ q. F.sum-ext N X (suc j) (λ t. N .times (M.cell N L′ k t) (M.cell N L′ j t)) (λ t. N .times (M.cell N L k t) (M.cell N L j t))
             (λ t s. ap₂ (N .times) (above k t q) (above j t (omega arith)))
             ∙ r .product k j q l)
             (eq-or-lt-of-le (le-of-suc-le-suc h));
       }
         where
-          in-row : (j : ℕ) → j ≤ i → M.sum N (suc j) (λ t. N .times (M.cell N L′ i t) (M.cell N L′ j t)) ≡ M.cell N A i j
+          in-row : (j : ℕ) → j ≤ i → M.sumOf N (suc j) (λ t. N .times (M.cell N L′ i t) (M.cell N L′ j t)) ≡ M.cell N A i j
           in-row j h = ⊎-elim
-              (λ e. subst⁻¹ (λ q. M.sum N (suc q) (λ t. N .times (M.cell N L′ i t) (M.cell N L′ q t)) ≡ M.cell N A i q) e own)
+              (λ e. subst⁻¹ (λ q. M.sumOf N (suc q) (λ t. N .times (M.cell N L′ i t) (M.cell N L′ q t)) ≡ M.cell N A i q) e own)
               (λ q. before j q)
               (eq-or-lt-of-le h)
 

@@ -17,8 +17,8 @@ module _ (N : Arithmetic) (X : Exact N) where
   abbrev pub times : N .Num → N .Num → N .Num
   times = N .times
 
-  abbrev pub sum : ℕ → (ℕ → N .Num) → N .Num
-  sum = M.sum N
+  abbrev pub sumOf : ℕ → (ℕ → N .Num) → N .Num
+  sumOf = M.sumOf N
 
   pub nought-plus : (x : N .Num) → plus (N .nought) x ≡ x
   nought-plus x = X .plus-comm (N .nought) x ∙ X .plus-nought x
@@ -80,36 +80,36 @@ module _ (N : Arithmetic) (X : Exact N) where
   times-minus x y z = X .times-comm x (minus y z) ∙ minus-times y z x ∙ ap₂ minus (X .times-comm y x) (X .times-comm z x)
 
   -- ---- sums
-  pub sum-ext : (n : ℕ) (f g : ℕ → N .Num) → ((t : ℕ) → t < n → f t ≡ g t) → sum n f ≡ sum n g
-  unfolding M.sum
+  pub sum-ext : (n : ℕ) (f g : ℕ → N .Num) → ((t : ℕ) → t < n → f t ≡ g t) → sumOf n f ≡ sumOf n g
+  unfolding M.sumOf
   sum-ext zero f g h = refl
   sum-ext (suc n) f g h = ap₂ plus (sum-ext n f g (λ t l. h t (le-of-lt (suc-le-suc l)))) (h n (le-refl (suc n)))
 
-  pub sum-plus : (n : ℕ) (f g : ℕ → N .Num) → plus (sum n f) (sum n g) ≡ sum n (λ t. plus (f t) (g t))
-  unfolding M.sum
+  pub sum-plus : (n : ℕ) (f g : ℕ → N .Num) → plus (sumOf n f) (sumOf n g) ≡ sumOf n (λ t. plus (f t) (g t))
+  unfolding M.sumOf
   sum-plus zero f g = X .plus-nought (N .nought)
-  sum-plus (suc n) f g = plus-plus (sum n f) (f n) (sum n g) (g n) ∙ ap (λ (x : N .Num). plus x (plus (f n) (g n))) (sum-plus n f g)
+  sum-plus (suc n) f g = plus-plus (sumOf n f) (f n) (sumOf n g) (g n) ∙ ap (λ (x : N .Num). plus x (plus (f n) (g n))) (sum-plus n f g)
 
-  pub sum-minus : (n : ℕ) (f g : ℕ → N .Num) → sum n (λ t. minus (f t) (g t)) ≡ minus (sum n f) (sum n g)
+  pub sum-minus : (n : ℕ) (f g : ℕ → N .Num) → sumOf n (λ t. minus (f t) (g t)) ≡ minus (sumOf n f) (sumOf n g)
   sum-minus n f g =
-      minus-only (sum n (λ t. minus (f t) (g t))) (sum n f) (sum n g)
+      minus-only (sumOf n (λ t. minus (f t) (g t))) (sumOf n f) (sumOf n g)
       (sum-plus n (λ t. minus (f t) (g t)) g ∙ sum-ext n (λ t. plus (minus (f t) (g t)) (g t)) f (λ t l. X .minus-plus (f t) (g t)))
 
-  pub sum-times : (n : ℕ) (f : ℕ → N .Num) (s : N .Num) → times (sum n f) s ≡ sum n (λ t. times (f t) s)
-  unfolding M.sum
+  pub sum-times : (n : ℕ) (f : ℕ → N .Num) (s : N .Num) → times (sumOf n f) s ≡ sumOf n (λ t. times (f t) s)
+  unfolding M.sumOf
   sum-times zero f s = nought-times s
-  sum-times (suc n) f s = plus-times (sum n f) (f n) s ∙ ap (λ (x : N .Num). plus x (times (f n) s)) (sum-times n f s)
+  sum-times (suc n) f s = plus-times (sumOf n f) (f n) s ∙ ap (λ (x : N .Num). plus x (times (f n) s)) (sum-times n f s)
 
-  pub times-sum : (n : ℕ) (f : ℕ → N .Num) (s : N .Num) → times s (sum n f) ≡ sum n (λ t. times s (f t))
+  pub times-sum : (n : ℕ) (f : ℕ → N .Num) (s : N .Num) → times s (sumOf n f) ≡ sumOf n (λ t. times s (f t))
   times-sum n f s =
-      X .times-comm s (sum n f) ∙ sum-times n f s ∙ sum-ext n (λ t. times (f t) s) (λ t. times s (f t)) (λ t l. X .times-comm (f t) s)
+      X .times-comm s (sumOf n f) ∙ sum-times n f s ∙ sum-ext n (λ t. times (f t) s) (λ t. times s (f t)) (λ t l. X .times-comm (f t) s)
 
   -- only the first m of n terms are not zero
-  pub sum-front : (m n : ℕ) (f : ℕ → N .Num) → m ≤ n → ((t : ℕ) → m ≤ t → t < n → f t ≡ N .nought) → sum n f ≡ sum m f
-  unfolding M.sum
-  sum-front m zero f h z = let e : zero ≡ m = omega arith in ap (λ k. sum k f) e
+  pub sum-front : (m n : ℕ) (f : ℕ → N .Num) → m ≤ n → ((t : ℕ) → m ≤ t → t < n → f t ≡ N .nought) → sumOf n f ≡ sumOf m f
+  unfolding M.sumOf
+  sum-front m zero f h z = let e : zero ≡ m = omega arith in ap (λ k. sumOf k f) e
   sum-front m (suc n) f h z = ⊎-elim
-      (λ e. ap (λ k. sum k f) (sym e))
+      (λ e. ap (λ k. sumOf k f) (sym e))
       (λ l. ap₂ plus (sum-front m n f (le-of-suc-le-suc l) (λ t q g. z t q (omega arith))) (z n (le-of-suc-le-suc l) (le-refl (suc n)))
-      ∙ X .plus-nought (sum m f))
+      ∙ X .plus-nought (sumOf m f))
       (eq-or-lt-of-le h)

@@ -76,8 +76,8 @@ module _ (N : Arithmetic) (X : Exact N) (n : ℕ) (e : Li.Estimate N) (o : In.In
     unfolding Li.predictedState M.matvec
     state-same P′ g =
         ap (λ (v : M.Vec N). M.vecAdd N n v (M.matvec N n i B u))
-        (table-ext n (λ r. M.sum N n (λ t. N .times (M.cell N A r t) (M.at N x′ t)))
-        (λ r. M.sum N n (λ t. N .times (M.cell N A r t) (M.at N (e .state) t)))
+        (table-ext n (λ r. M.sumOf N n (λ t. N .times (M.cell N A r t) (M.at N x′ t)))
+        (λ r. M.sumOf N n (λ t. N .times (M.cell N A r t) (M.at N (e .state) t)))
         (λ r hr. F.sum-ext N X n (λ t. N .times (M.cell N A r t) (M.at N x′ t)) (λ t. N .times (M.cell N A r t) (M.at N (e .state) t))
         (λ t ht. ap (N .times (M.cell N A r t)) (back P′ g p t ht))))
       where

@@ -29,17 +29,17 @@ module _ (N : Arithmetic) (X : Exact N) where
     own : term i ≡ g i
     own = ap (λ (x : N .Num). N .times x (g i)) (cond-true (N .unit) (N .nought) (eq-eqb i i refl)) ∙ F.unit-times N X (g i)
 
-    pick-none : (m : ℕ) → m ≤ i → M.sum N m term ≡ N .nought
-    unfolding M.sum
+    pick-none : (m : ℕ) → m ≤ i → M.sumOf N m term ≡ N .nought
+    unfolding M.sumOf
     pick-none zero h = refl
     pick-none (suc m) h = ap₂ (N .plus) (pick-none m (omega arith)) (other m (λ e. omega arith)) ∙ X .plus-nought (N .nought)
 
-    pub pick : (m : ℕ) → i < m → M.sum N m term ≡ g i
-    unfolding M.sum
+    pub pick : (m : ℕ) → i < m → M.sumOf N m term ≡ g i
+    unfolding M.sumOf
     pick zero h = absurd (omega arith)
     pick (suc m) h = by (eqb i m) refl (λ l. pick m l)
       where
-        by : (b : Bool) → eqb i m ≡ b → (i < m → M.sum N m term ≡ g i) → N .plus (M.sum N m term) (term m) ≡ g i
+        by : (b : Bool) → eqb i m ≡ b → (i < m → M.sumOf N m term ≡ g i) → N .plus (M.sumOf N m term) (term m) ≡ g i
         by true e again =
             let same : i ≡ m = eqb-true i m e in
             ap₂ (N .plus) (pick-none m (omega arith)) (ap term (sym same) ∙ own) ∙ F.nought-plus N X (g i)
@@ -61,16 +61,16 @@ module _ (N : Arithmetic) (X : Exact N) where
   abbrev pub term-of : M.Mat N → M.Mat N → ℕ → ℕ → ℕ → N .Num
   term-of A B i j t = N .times (M.cell N A i t) (M.cell N B t j)
 
-  pub cell-mul : (r k c : ℕ) (A B : M.Mat N) (i j : ℕ) → i < r → j < c → M.cell N (M.mul N r k c A B) i j ≡ M.sum N k (term-of A B i j)
+  pub cell-mul : (r k c : ℕ) (A B : M.Mat N) (i j : ℕ) → i < r → j < c → M.cell N (M.mul N r k c A B) i j ≡ M.sumOf N k (term-of A B i j)
   unfolding M.mul
-  cell-mul r k c A B i j hi hj = Cells.cell-mat N r c (λ i j. M.sum N k (term-of A B i j)) i j hi hj
+  cell-mul r k c A B i j hi hj = Cells.cell-mat N r c (λ i j. M.sumOf N k (term-of A B i j)) i j hi hj
 
   -- two products are alike where their terms are
   pub mul-by : (r k c : ℕ) (A B A′ B′ : M.Mat N) → ((i j t : ℕ) → i < r → j < c → t < k → term-of A B i j t ≡ term-of A′ B′ i j t)
       → M.mul N r k c A B ≡ M.mul N r k c A′ B′
   unfolding M.mul
   mul-by r k c A B A′ B′ e =
-      Cells.mat-ext N r c (λ i j. M.sum N k (term-of A B i j)) (λ i j. M.sum N k (term-of A′ B′ i j))
+      Cells.mat-ext N r c (λ i j. M.sumOf N k (term-of A B i j)) (λ i j. M.sumOf N k (term-of A′ B′ i j))
       (λ i j hi hj. F.sum-ext N X k (term-of A B i j) (term-of A′ B′ i j) (λ t ht. e i j t hi hj ht))
 
   pub fit-left : (r k c : ℕ) (A B : M.Mat N) → M.mul N r k c (fit r k A) B ≡ M.mul N r k c A B
@@ -85,56 +85,56 @@ module _ (N : Arithmetic) (X : Exact N) where
   pub identity-left : (n c : ℕ) (A : M.Mat N) → M.mul N n n c (M.identity N n) A ≡ fit n c A
   unfolding M.mul M.identity
   identity-left n c A =
-      Cells.mat-ext N n c (λ i j. M.sum N n (term-of (M.identity N n) A i j)) (M.cell N A)
+      Cells.mat-ext N n c (λ i j. M.sumOf N n (term-of (M.identity N n) A i j)) (M.cell N A)
       (λ i j hi hj. F.sum-ext N X n (term-of (M.identity N n) A i j) (λ t. N .times (delta i t) (M.cell N A t j))
       (λ t ht. ap (λ (x : N .Num). N .times x (M.cell N A t j)) (Cells.cell-mat N n n delta i t hi ht)) ∙ pick i (λ t. M.cell N A t j) n hi)
 
   pub identity-right : (r n : ℕ) (A : M.Mat N) → M.mul N r n n A (M.identity N n) ≡ fit r n A
   unfolding M.mul M.identity
   identity-right r n A =
-      Cells.mat-ext N r n (λ i j. M.sum N n (term-of A (M.identity N n) i j)) (M.cell N A)
+      Cells.mat-ext N r n (λ i j. M.sumOf N n (term-of A (M.identity N n) i j)) (M.cell N A)
       (λ i j hi hj. F.sum-ext N X n (term-of A (M.identity N n) i j) (λ t. N .times (delta j t) (M.cell N A i t))
       (λ t ht. ap (N .times (M.cell N A i t)) (Cells.cell-mat N n n delta t j ht hj ∙ delta-turned t j)
       ∙ X .times-comm (M.cell N A i t) (delta j t))
       ∙ pick j (λ t. M.cell N A i t) n hj)
 
   -- ---- a sum of sums
-  sum-noughts : (n : ℕ) → M.sum N n (λ t. N .nought) ≡ N .nought
-  unfolding M.sum
+  sum-noughts : (n : ℕ) → M.sumOf N n (λ t. N .nought) ≡ N .nought
+  unfolding M.sumOf
   sum-noughts zero = refl
-  sum-noughts (suc n) = X .plus-nought (M.sum N n (λ t. N .nought)) ∙ sum-noughts n
+  sum-noughts (suc n) = X .plus-nought (M.sumOf N n (λ t. N .nought)) ∙ sum-noughts n
 
-  sum-turned : (k l : ℕ) (f : ℕ → ℕ → N .Num) → M.sum N k (λ t. M.sum N l (λ s. f t s)) ≡ M.sum N l (λ s. M.sum N k (λ t. f t s))
-  unfolding M.sum
+  sum-turned : (k l : ℕ) (f : ℕ → ℕ → N .Num) → M.sumOf N k (λ t. M.sumOf N l (λ s. f t s)) ≡ M.sumOf N l (λ s. M.sumOf N k (λ t. f t s))
+  unfolding M.sumOf
   sum-turned zero l f = sym (sum-noughts l)
   sum-turned (suc k) l f =
-      ap (λ (x : N .Num). N .plus x (M.sum N l (λ s. f k s))) (sum-turned k l f) ∙ F.sum-plus N X l (λ s. M.sum N k (λ t. f t s)) (λ s. f k s)
+      ap (λ (x : N .Num). N .plus x (M.sumOf N l (λ s. f k s))) (sum-turned k l f) ∙ F.sum-plus N X l (λ s. M.sumOf N k (λ t. f t s)) (λ s. f k s)
 
   pub mul-assoc : (r k l c : ℕ) (A B C : M.Mat N) → M.mul N r l c (M.mul N r k l A B) C ≡ M.mul N r k c A (M.mul N k l c B C)
   unfolding M.mul
   mul-assoc r k l c A B C =
-      Cells.mat-ext N r c (λ i j. M.sum N l (term-of (M.mul N r k l A B) C i j)) (λ i j. M.sum N k (term-of A (M.mul N k l c B C) i j))
+      Cells.mat-ext N r c (λ i j. M.sumOf N l (term-of (M.mul N r k l A B) C i j)) (λ i j. M.sumOf N k (term-of A (M.mul N k l c B C) i j))
       (λ i j hi hj.
-      F.sum-ext N X l (term-of (M.mul N r k l A B) C i j) (λ s. M.sum N k (λ t. three i j t s)) (λ s hs. inner i j s hi hs)
+      F.sum-ext N X l (term-of (M.mul N r k l A B) C i j) (λ s. M.sumOf N k (λ t. three i j t s)) (λ s hs. inner i j s hi hs)
       ∙ sym (sum-turned k l (three i j))
-      ∙ sym (F.sum-ext N X k (term-of A (M.mul N k l c B C) i j) (λ t. M.sum N l (λ s. three i j t s)) (λ t ht. outer i j t ht hj)))
+      ∙ sym (F.sum-ext N X k (term-of A (M.mul N k l c B C) i j) (λ t. M.sumOf N l (λ s. three i j t s)) (λ t ht. outer i j t ht hj)))
     where
       three : ℕ → ℕ → ℕ → ℕ → N .Num
       three i j t s = N .times (M.cell N A i t) (term-of B C t j s)
 
-      inner : (i j s : ℕ) → i < r → s < l → term-of (M.mul N r k l A B) C i j s ≡ M.sum N k (λ t. three i j t s)
+      inner : (i j s : ℕ) → i < r → s < l → term-of (M.mul N r k l A B) C i j s ≡ M.sumOf N k (λ t. three i j t s)
       inner i j s hi hs =
           ap (λ (x : N .Num). N .times x (M.cell N C s j)) (cell-mul r k l A B i s hi hs)
           ∙ F.sum-times N X k (term-of A B i s) (M.cell N C s j)
           ∙ F.sum-ext N X k (λ t. N .times (term-of A B i s t) (M.cell N C s j)) (λ t. three i j t s)
           (λ t ht. X .times-assoc (M.cell N A i t) (M.cell N B t s) (M.cell N C s j))
 
-      outer : (i j t : ℕ) → t < k → j < c → term-of A (M.mul N k l c B C) i j t ≡ M.sum N l (λ s. three i j t s)
+      outer : (i j t : ℕ) → t < k → j < c → term-of A (M.mul N k l c B C) i j t ≡ M.sumOf N l (λ s. three i j t s)
       outer i j t ht hj = ap (N .times (M.cell N A i t)) (cell-mul k l c B C t j ht hj) ∙ F.times-sum N X l (term-of B C t j) (M.cell N A i t)
 
   -- ---- sums and differences
   module _ (op : N .Num → N .Num → N .Num) (r k c : ℕ) (A B C : M.Mat N)
-      (sums : (f g : ℕ → N .Num) → M.sum N k (λ t. op (f t) (g t)) ≡ op (M.sum N k f) (M.sum N k g)) where
+      (sums : (f g : ℕ → N .Num) → M.sumOf N k (λ t. op (f t) (g t)) ≡ op (M.sumOf N k f) (M.sumOf N k g)) where
     abbrev both : ℕ → ℕ → M.Mat N → M.Mat N → M.Mat N
     both r c A B = M.mat N r c (λ i j. op (M.cell N A i j) (M.cell N B i j))
 
@@ -142,7 +142,7 @@ module _ (N : Arithmetic) (X : Exact N) where
         → M.mul N r k c (both r k A B) C ≡ both r c (M.mul N r k c A C) (M.mul N r k c B C)
     unfolding M.mul
     both-mul law =
-        Cells.mat-ext N r c (λ i j. M.sum N k (term-of (both r k A B) C i j))
+        Cells.mat-ext N r c (λ i j. M.sumOf N k (term-of (both r k A B) C i j))
         (λ i j. op (M.cell N (M.mul N r k c A C) i j) (M.cell N (M.mul N r k c B C) i j))
         (λ i j hi hj.
         F.sum-ext N X k (term-of (both r k A B) C i j) (λ t. op (term-of A C i j t) (term-of B C i j t))
@@ -155,7 +155,7 @@ module _ (N : Arithmetic) (X : Exact N) where
         → M.mul N r k c A (both k c B C) ≡ both r c (M.mul N r k c A B) (M.mul N r k c A C)
     unfolding M.mul
     mul-both law =
-        Cells.mat-ext N r c (λ i j. M.sum N k (term-of A (both k c B C) i j))
+        Cells.mat-ext N r c (λ i j. M.sumOf N k (term-of A (both k c B C) i j))
         (λ i j. op (M.cell N (M.mul N r k c A B) i j) (M.cell N (M.mul N r k c A C) i j))
         (λ i j hi hj.
         F.sum-ext N X k (term-of A (both k c B C) i j) (λ t. op (term-of A B i j t) (term-of A C i j t))
@@ -208,7 +208,7 @@ module _ (N : Arithmetic) (X : Exact N) where
   pub fit-mul : (r k c : ℕ) (A B : M.Mat N) → fit r c (M.mul N r k c A B) ≡ M.mul N r k c A B
   unfolding M.mul
   fit-mul r k c A B =
-      Cells.mat-ext N r c (M.cell N (M.mul N r k c A B)) (λ i j. M.sum N k (term-of A B i j)) (λ i j hi hj. cell-mul r k c A B i j hi hj)
+      Cells.mat-ext N r c (M.cell N (M.mul N r k c A B)) (λ i j. M.sumOf N k (term-of A B i j)) (λ i j hi hj. cell-mul r k c A B i j hi hj)
 
   pub fit-identity : (n : ℕ) → fit n n (M.identity N n) ≡ M.identity N n
   unfolding M.identity
@@ -249,9 +249,9 @@ module _ (N : Arithmetic) (X : Exact N) where
   pub upright-matvec : (r c : ℕ) (A : M.Mat N) (v : M.Vec N) → upright r (M.matvec N r c A v) ≡ M.mul N r c 1 A (upright c v)
   unfolding M.matvec M.mul
   upright-matvec r c A v =
-      Cells.mat-ext N r 1 (λ i j. M.at N (M.matvec N r c A v) i) (λ i j. M.sum N c (term-of A (upright c v) i j))
+      Cells.mat-ext N r 1 (λ i j. M.at N (M.matvec N r c A v) i) (λ i j. M.sumOf N c (term-of A (upright c v) i j))
       (λ i j hi hj.
-      getD-table r (λ i. M.sum N c (λ j. N .times (M.cell N A i j) (M.at N v j))) i (N .none) hi
+      getD-table r (λ i. M.sumOf N c (λ j. N .times (M.cell N A i j) (M.at N v j))) i (N .none) hi
       ∙ F.sum-ext N X c (λ t. N .times (M.cell N A i t) (M.at N v t)) (term-of A (upright c v) i j)
       (λ t ht. ap (N .times (M.cell N A i t)) (sym (at-upright c v t j ht hj))))
 

@@ -110,26 +110,26 @@ module _ (N : Arithmetic) (X : Exact N) where
         ∙ ap₂ plus (F.unit-times N X (times p p′)) (F.unit-times N X (times q q′))
 
   -- ---- one term changes
-  pub sum-change : (n k : ℕ) (f g : ℕ → N .Num) → k < n → ((t : ℕ) → t < n → (t ≡ k → ⊥) → f t ≡ g t) → plus (M.sum N n f) (g k)
-      ≡ plus (M.sum N n g) (f k)
-  unfolding M.sum
+  pub sum-change : (n k : ℕ) (f g : ℕ → N .Num) → k < n → ((t : ℕ) → t < n → (t ≡ k → ⊥) → f t ≡ g t) → plus (M.sumOf N n f) (g k)
+      ≡ plus (M.sumOf N n g) (f k)
+  unfolding M.sumOf
   sum-change zero k f g h e = absurd (omega arith)
   sum-change (suc n) k f g h e = by (eqb n k) refl (λ l. sum-change n k f g l (λ t h q. e t (omega arith) q))
     where
-      by : (b : Bool) → eqb n k ≡ b → (k < n → plus (M.sum N n f) (g k) ≡ plus (M.sum N n g) (f k))
-          → plus (plus (M.sum N n f) (f n)) (g k) ≡ plus (plus (M.sum N n g) (g n)) (f k)
+      by : (b : Bool) → eqb n k ≡ b → (k < n → plus (M.sumOf N n f) (g k) ≡ plus (M.sumOf N n g) (f k))
+          → plus (plus (M.sumOf N n f) (f n)) (g k) ≡ plus (plus (M.sumOf N n g) (g n)) (f k)
       by true q again =
           let same : n ≡ k = eqb-true n k q in
           ap₂ (λ (x y : N .Num). plus (plus x (f n)) y) (F.sum-ext N X n f g (λ t l. e t (omega arith) (λ z. omega arith))) (ap g (sym same))
-          ∙ X .plus-assoc (M.sum N n g) (f n) (g n)
-          ∙ ap (plus (M.sum N n g)) (X .plus-comm (f n) (g n))
-          ∙ sym (X .plus-assoc (M.sum N n g) (g n) (f n))
-          ∙ ap (λ (x : N .Num). plus (plus (M.sum N n g) (g n)) x) (ap f same)
+          ∙ X .plus-assoc (M.sumOf N n g) (f n) (g n)
+          ∙ ap (plus (M.sumOf N n g)) (X .plus-comm (f n) (g n))
+          ∙ sym (X .plus-assoc (M.sumOf N n g) (g n) (f n))
+          ∙ ap (λ (x : N .Num). plus (plus (M.sumOf N n g) (g n)) x) (ap f same)
       by false q again =
           let differ : n ≡ k → ⊥ = eqb-false n k q in
-          moved (M.sum N n f) (f n) (g k)
+          moved (M.sumOf N n f) (f n) (g k)
           ∙ ap₂ plus (again (omega (arith, differ))) (e n (le-refl (suc n)) differ)
-          ∙ moved (M.sum N n g) (f k) (g n)
+          ∙ moved (M.sumOf N n g) (f k) (g n)
         where
           moved : (x y z : N .Num) → plus (plus x y) z ≡ plus (plus x z) y
           moved x y z = X .plus-assoc x y z ∙ ap (plus x) (X .plus-comm y z) ∙ sym (X .plus-assoc x z y)

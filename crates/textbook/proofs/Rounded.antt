@@ -73,8 +73,8 @@ unfolding E.inv Inverse.inv
 inv-is n A = mapped-mapped toL (λ (w : Inverse.Augmented). w .right) (E.columns rounded n n A) ∙ ap (mapped (λ w. w .right)) (columns-is n n A)
 
 -- ---- Cholesky's factor
-pub sum-is : (n : ℕ) (f : ℕ → Float) → M.sum rounded n f ≡ Matrix.sum n f
-unfolding M.sum Matrix.sumFrom
+pub sum-is : (n : ℕ) (f : ℕ → Float) → M.sumOf rounded n f ≡ Matrix.sumOf n f
+unfolding M.sumOf Matrix.sumFrom
 sum-is zero f = refl
 sum-is (suc n) f = ap (λ (x : Float). rounded .plus x (f n)) (sum-is n f)
 

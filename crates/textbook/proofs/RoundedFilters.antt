@@ -22,15 +22,15 @@ use Rattle.textbook.proofs.Rounded.{sum-is, inv-is}
 mul-is : (r k c : ℕ) (A B : Matrix.Matrix) → M.mul rounded r k c A B ≡ Matrix.mul r k c A B
 unfolding M.mul Matrix.mul
 mul-is r k c A B =
-    Cells.mat-ext rounded r c (λ i j. M.sum rounded k (λ t. rounded .times (Matrix.cell A i t) (Matrix.cell B t j)))
-    (λ i j. Matrix.sum k (λ t. rounded .times (Matrix.cell A i t) (Matrix.cell B t j)))
+    Cells.mat-ext rounded r c (λ i j. M.sumOf rounded k (λ t. rounded .times (Matrix.cell A i t) (Matrix.cell B t j)))
+    (λ i j. Matrix.sumOf k (λ t. rounded .times (Matrix.cell A i t) (Matrix.cell B t j)))
     (λ i j hi hj. sum-is k (λ t. rounded .times (Matrix.cell A i t) (Matrix.cell B t j)))
 
 matvec-is : (r c : ℕ) (A : Matrix.Matrix) (v : Matrix.Vector) → M.matvec rounded r c A v ≡ Matrix.matvec r c A v
 unfolding M.matvec Matrix.matvec
 matvec-is r c A v =
-    table-ext r (λ i. M.sum rounded c (λ j. rounded .times (Matrix.cell A i j) (Matrix.at v j)))
-    (λ i. Matrix.sum c (λ j. rounded .times (Matrix.cell A i j) (Matrix.at v j)))
+    table-ext r (λ i. M.sumOf rounded c (λ j. rounded .times (Matrix.cell A i j) (Matrix.at v j)))
+    (λ i. Matrix.sumOf c (λ j. rounded .times (Matrix.cell A i j) (Matrix.at v j)))
     (λ i hi. sum-is c (λ j. rounded .times (Matrix.cell A i j) (Matrix.at v j)))
 
 -- ---- the linear filter

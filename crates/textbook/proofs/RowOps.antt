@@ -24,7 +24,7 @@ module _ (N : Arithmetic) (X : Exact N) (n : ℕ) where
   same-back p i j hi hj = sym (p i j hi hj)
 
   abbrev pub product : Cells → Cells → Cells
-  product f g i j = M.sum N n (λ t. N .times (f i t) (g t j))
+  product f g i j = M.sumOf N n (λ t. N .times (f i t) (g t j))
 
   pub product-same : {f g h k : Cells} → Same f g → Same h k → Same (product f h) (product g k)
   product-same {f} {g} {h} {k} p q i j hi hj =
@@ -70,7 +70,7 @@ module _ (N : Arithmetic) (X : Exact N) (n : ℕ) where
     swap-product f g i j hi hj = by (eqb i c) (eqb i p)
       where
         by : (b d : Bool) → cond b (product f g p j) (cond d (product f g c j) (product f g i j))
-            ≡ M.sum N n (λ t. N .times (cond b (f p t) (cond d (f c t) (f i t))) (g t j))
+            ≡ M.sumOf N n (λ t. N .times (cond b (f p t) (cond d (f c t) (f i t))) (g t j))
         by true d = refl
         by false true = refl
         by false false = refl
@@ -118,7 +118,7 @@ module _ (N : Arithmetic) (X : Exact N) (n : ℕ) where
     scale-product s f g i j hi hj = by (eqb i c)
       where
         by : (b : Bool) → cond b (N .times (product f g c j) s) (product f g i j)
-            ≡ M.sum N n (λ t. N .times (cond b (N .times (f c t) s) (f i t)) (g t j))
+            ≡ M.sumOf N n (λ t. N .times (cond b (N .times (f c t) s) (f i t)) (g t j))
         by true =
             F.sum-times N X n (λ t. N .times (f c t) (g t j)) s
             ∙ F.sum-ext N X n (λ t. N .times (N .times (f c t) (g t j)) s) (λ t. N .times (N .times (f c t) s) (g t j))
@@ -158,18 +158,18 @@ module _ (N : Arithmetic) (X : Exact N) (n : ℕ) where
     -- x times z, summed, with y times z, summed, g times: by - and by +
     module _ (x y z : ℕ → N .Num) (g : N .Num) where
       abbrev xz : N .Num
-      xz = M.sum N n (λ t. N .times (x t) (z t))
+      xz = M.sumOf N n (λ t. N .times (x t) (z t))
 
       abbrev yz : N .Num
-      yz = M.sum N n (λ t. N .times (y t) (z t))
+      yz = M.sumOf N n (λ t. N .times (y t) (z t))
 
-      g-inside : N .times g yz ≡ M.sum N n (λ t. N .times (N .times g (y t)) (z t))
+      g-inside : N .times g yz ≡ M.sumOf N n (λ t. N .times (N .times g (y t)) (z t))
       g-inside =
           F.times-sum N X n (λ t. N .times (y t) (z t)) g
           ∙ F.sum-ext N X n (λ t. N .times g (N .times (y t) (z t))) (λ t. N .times (N .times g (y t)) (z t))
           (λ t l. sym (X .times-assoc g (y t) (z t)))
 
-      pub less : N .minus xz (N .times g yz) ≡ M.sum N n (λ t. N .times (N .minus (x t) (N .times g (y t))) (z t))
+      pub less : N .minus xz (N .times g yz) ≡ M.sumOf N n (λ t. N .times (N .minus (x t) (N .times g (y t))) (z t))
       less =
           ap (N .minus xz) g-inside
           ∙ sym (F.sum-minus N X n (λ t. N .times (x t) (z t)) (λ t. N .times (N .times g (y t)) (z t)))
@@ -177,7 +177,7 @@ module _ (N : Arithmetic) (X : Exact N) (n : ℕ) where
           (λ t. N .times (N .minus (x t) (N .times g (y t))) (z t))
           (λ t l. sym (F.minus-times N X (x t) (N .times g (y t)) (z t)))
 
-      pub more : N .plus xz (N .times g yz) ≡ M.sum N n (λ t. N .times (N .plus (x t) (N .times g (y t))) (z t))
+      pub more : N .plus xz (N .times g yz) ≡ M.sumOf N n (λ t. N .times (N .plus (x t) (N .times g (y t))) (z t))
       more =
           ap (N .plus xz) g-inside
           ∙ F.sum-plus N X n (λ t. N .times (x t) (z t)) (λ t. N .times (N .times g (y t)) (z t))
@@ -197,12 +197,12 @@ module _ (N : Arithmetic) (X : Exact N) (n : ℕ) where
     }
       where
         down : (f h : Cells) (i j : ℕ) (b : Bool) → cond b (product f h c j) (N .minus (product f h i j) (N .times (g i) (product f h c j)))
-            ≡ M.sum N n (λ t. N .times (cond b (f c t) (N .minus (f i t) (N .times (g i) (f c t)))) (h t j))
+            ≡ M.sumOf N n (λ t. N .times (cond b (f c t) (N .minus (f i t) (N .times (g i) (f c t)))) (h t j))
         down f h i j true = refl
         down f h i j false = less (f i) (f c) (λ t. h t j) (g i)
 
         up : (f h : Cells) (i j : ℕ) (b : Bool) → cond b (product f h c j) (N .plus (product f h i j) (N .times (g i) (product f h c j)))
-            ≡ M.sum N n (λ t. N .times (cond b (f c t) (N .plus (f i t) (N .times (g i) (f c t)))) (h t j))
+            ≡ M.sumOf N n (λ t. N .times (cond b (f c t) (N .plus (f i t) (N .times (g i) (f c t)))) (h t j))
         up f h i j true = refl
         up f h i j false = more (f i) (f c) (λ t. h t j) (g i)
 

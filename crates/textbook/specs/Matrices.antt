@@ -27,12 +27,12 @@ module _ (N : Arithmetic) where
   abbrev pub mat : ℕ → ℕ → (ℕ → ℕ → N .Num) → Mat
   mat r c f = table r (λ i. table c (λ j. f i j))
 
-  unfoldable pub sum : ℕ → (ℕ → N .Num) → N .Num
-  sum zero f = N .nought
-  sum (suc n) f = N .plus (sum n f) (f n)
+  unfoldable pub sumOf : ℕ → (ℕ → N .Num) → N .Num
+  sumOf zero f = N .nought
+  sumOf (suc n) f = N .plus (sumOf n f) (f n)
 
   unfoldable pub dot : ℕ → Vec → Vec → N .Num
-  dot n v w = sum n (λ i. N .times (at v i) (at w i))
+  dot n v w = sumOf n (λ i. N .times (at v i) (at w i))
 
   unfoldable pub vecAdd : ℕ → Vec → Vec → Vec
   vecAdd n v w = table n (λ i. N .plus (at v i) (at w i))
@@ -54,11 +54,11 @@ module _ (N : Arithmetic) where
 
   -- r × k times k × c
   unfoldable pub mul : ℕ → ℕ → ℕ → Mat → Mat → Mat
-  mul r k c A B = mat r c (λ i j. sum k (λ t. N .times (cell A i t) (cell B t j)))
+  mul r k c A B = mat r c (λ i j. sumOf k (λ t. N .times (cell A i t) (cell B t j)))
 
   -- r × c times a vector of c components
   unfoldable pub matvec : ℕ → ℕ → Mat → Vec → Vec
-  matvec r c A v = table r (λ i. sum c (λ j. N .times (cell A i j) (at v j)))
+  matvec r c A v = table r (λ i. sumOf c (λ j. N .times (cell A i j) (at v j)))
 
   -- ---- relations
 

@@ -2,7 +2,7 @@
 use Prim.Native.Nat.{_<_}
 use mathlib.Core.Path.{sym, _∙_}
 use native.Mathlib.Omega.{arith}
-use Rattle.algebra.specs.Matrix.{set}
+use Rattle.algebra.specs.Matrix.{setCell}
 use Rattle.algebra.specs.Array.{used}
 use Rattle.matrix.proofs.Sizes.{inside-sizes, is-count}
 use Rattle.matrix.proofs.Results.{matrix-refused}
@@ -24,7 +24,7 @@ returns c =
     let n = inside-sizes _ _ _ _ e in
     let er = is-count (n .sizes .rows) (s .before .size-of .ensures) in
     let ec = is-count (n .sizes .cols) (s .size-of2 .ensures) in
-    matrix-at (λ r c. set r c (a .i) (a .j) (a .val) (used r c (a .t1))) e (n .sizes) (s .before .size-of .ensures) (s .size-of2 .ensures)
+    matrix-at (λ r c. setCell r c (a .i) (a .j) (a .val) (used r c (a .t1))) e (n .sizes) (s .before .size-of .ensures) (s .size-of2 .ensures)
     (c .matrix-result .ensures) (stored-used _ _ _ _ _ _ (p .used-part .ensures) (omega arith) (omega arith))
 
 returns-2 : tie.Need-returns-2

@@ -20,7 +20,7 @@ returns c =
     c .diagonal-two .ensures
     ∙ (λ i. asMatrix (fromDiagonal (twoByTwo (first .pick3 .ensures i) (right .pick4 .ensures i) (below .pick5 .ensures i) (last .pick6 .ensures i))
     (twoByTwo (e .pick .ensures i) (f .pick2 .ensures i) (f .pick2 .ensures i) (e .pick .ensures i))))
-    ∙ ap asMatrix (exchange-two (x .a) (x .b) (x .c) (x .d) (t .above .ensures))
+    ∙ ap asMatrix (exchange-two (x .a) (x .b) (x .c) (x .d) (t .is-larger .ensures))
 
 pub inverse-two-spec : {M : Type 1} → statement M
 inverse-two-spec = tie.close (tie.spec (λ c κs. tt) (λ c κs. tt) (λ c κs. tt) (λ c κs. tt) (λ c κs. tt) (λ c κs. tt) (λ c κs. tt) (λ c κs. tt) returns)

@@ -3,7 +3,7 @@ use native.Mathlib.Omega.{arith}
 use Rattle.algebra.specs.Matrix.{at}
 use Rattle.algebra.specs.Inverse.{inv}
 use Rattle.algebra.proofs.Inverses.{inv-shape}
-use Rattle.inverse.specs.Two.{reciprocal}
+use Rattle.inverse.specs.Two.{invNumber}
 use Rattle.inverse.proofs.Two.{number-is}
 use Rattle.c_matrix.proofs.Ways.{Two, two-of, rows-at, matrix-in, answer-handed, one-long, number-answered, if-refuses, none}
 use Rattle.c_matrix.proofs.matrices.matrix_inv.Statement.{statement}
@@ -23,7 +23,7 @@ returns c =
     let d = c .before .before .before in
     let u = d .before .before .before in
     let a = u .before .before .before .before .before .args in
-    number-answered inv (a .a .now) (a .out .now) (reciprocal (at (a .a .now) 0)) (whole (u .before) .passed) (u .if2 .taken)
+    number-answered inv (a .a .now) (a .out .now) (invNumber (at (a .a .now) 0)) (whole (u .before) .passed) (u .if2 .taken)
     (number-is _) (d .inverse-number .ensures) (c .before .before .give-number .ensures)
 
 returns-2 : tie.Need-returns-2

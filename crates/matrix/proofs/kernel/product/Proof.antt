@@ -6,7 +6,7 @@ use lib.ListN.{replicate}
 use lib.Ieee.{Float}
 use Rattle.scalar.specs.Number.{_⊗_, +0}
 use Rattle.answer.specs.Table.{table}
-use Rattle.algebra.specs.Matrix.{row, cell, sum}
+use Rattle.algebra.specs.Matrix.{row, cell, sumOf}
 use Rattle.algebra.specs.Array.{cut, padRow}
 use Rattle.algebra.proofs.Arrays.{rows-at, mul-used}
 use Rattle.matrix.specs.Size.{count}
@@ -22,7 +22,7 @@ none = replicate 4 +0
 
 -- row i of the product, of the call's arguments
 abbrev rowOf : tie.Start → ℕ → List Float
-rowOf e i = let x = e .args in table (count (x .c)) (λ j. sum (count (x .k)) (λ t. cell (x .a .now) i t ⊗ cell (x .b .now) t j))
+rowOf e i = let x = e .args in table (count (x .c)) (λ j. sumOf (count (x .k)) (λ t. cell (x .a .now) i t ⊗ cell (x .b .now) t j))
 
 made : (x : tie.Start) (i : ℕ) {s v : List Float} → s ≡ rowTimes (count (x .args .k)) (row (x .args .a .now) i) (x .args .b .now) → v ≡ padRow (cut (count (x .args .c)) s) → v ≡ padRow (rowOf x i)
 unfolding rowTimes
