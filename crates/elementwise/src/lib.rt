@@ -21,10 +21,10 @@ ghost use Rattle.scalar.specs.Number.{_⊗_};
 ghost use Rattle.answer.specs.Answer.{where-sized};
 ghost use Rattle.algebra.specs.Matrix.{at, cell, zeros, filled, identity, transpose, add, sub, scale, negated};
 ghost use Rattle.algebra.specs.Matrix.{setCell, sumFrom, squares, frobNorm, trace, every, equal};
-ghost use Rattle.algebra.specs.Array.{used, usedFlat, flatOfRows};
+ghost use Rattle.algebra.specs.Array.{used, usedFlat};
 ghost use Rattle.matrix.specs.Result.{asMatrix, asScalar, asTest};
 ghost use Rattle.matrix.specs.Size.{count, part, sized, shaped, alike, inside};
-ghost use Rattle.elementwise.specs.Record.{flatMatrix};
+ghost use Rattle.elementwise.specs.Record.{recordOf, madeOf};
 
 // ---- a matrix as a record
 
@@ -33,6 +33,12 @@ pub struct Matrix {
     pub rows: usize,
     pub cols: usize,
     pub cells: [f64; 16],
+}
+
+// A matrix of an array of rows, beside its case.
+pub struct MatrixMade {
+    pub status: Status,
+    pub matrix: Matrix,
 }
 
 // The used part of a, of r rows and c columns. Refused with 1: a size.
@@ -48,7 +54,7 @@ fn part_of(a: &[[f64; 4]; 4], r: usize, c: usize) -> MatrixResult
     }
 }
 
-// Refused with 1 where a size is not 1 to 4; from_rows takes the sizes as they are.
+// Refused with 1 where a size is not 1 to 4.
 impl Matrix {
     pub fn zeros(rows: usize, cols: usize) -> MatrixResult
         ensures { λ m. ⌜ m ≡ asMatrix (where-sized (shaped rows cols) (zeros rows cols)) ⌝ }
@@ -76,12 +82,26 @@ impl Matrix {
         Matrix::zeros(rows, cols)
     }
 
-    // The record of an array of rows.
-    pub fn from_rows(a: [[f64; 4]; 4], rows: usize, cols: usize) -> Matrix
-        ensures { λ m. ⌜ m ≡ flatMatrix rows cols (flatOfRows a) ⌝ }
+    // The record of an array of rows, its unused cells +0.
+    pub fn from_rows(a: [[f64; 4]; 4], rows: usize, cols: usize) -> MatrixMade
+        ensures { λ m. ⌜ m ≡ madeOf (where-sized (shaped rows cols) (recordOf rows cols (used rows cols a))) ⌝ }
     {
-        let cells = kernel::to_flat(&a);
-        Matrix { rows, cols, cells }
+        if is_shape(rows, cols) {
+            let cells = kernel::flat_part(&a, size_of(rows), size_of(cols));
+            MatrixMade {
+                status: Status::Done,
+                matrix: Matrix { rows, cols, cells },
+            }
+        } else {
+            MatrixMade {
+                status: Status::Refused(1),
+                matrix: Matrix {
+                    rows: 0,
+                    cols: 0,
+                    cells: [0.0; 16],
+                },
+            }
+        }
     }
 
     // The array of rows, its unused cells +0.
