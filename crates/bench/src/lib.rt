@@ -8,7 +8,8 @@ ghost use Rattle.matrix.specs.Size.{sized, chained};
 ghost use Rattle.matrix.specs.Result.{asMatrix};
 ghost use Rattle.algebra.specs.Inverse.{inv};
 ghost use Rattle.algebra.specs.Cholesky.{cholesky};
-ghost use Rattle.kalman.specs.Record.{motionFrom, sensorFrom, estimateFrom, newOf};
+ghost use Rattle.steps.specs.Flat.{motionFrom, sensorFrom, estimateFrom};
+ghost use Rattle.kalman.specs.Record.{newOf};
 ghost use Rattle.bench.specs.Steps.{stepsOf};
 use kalman::KalmanFilter;
 

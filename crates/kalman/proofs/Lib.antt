@@ -1,4 +1,3 @@
 pub mod Ways
 pub mod Steps
-pub mod Records
 pub mod One

@@ -24,12 +24,10 @@ use Rattle.filtering.specs.Filter.{Sensor, Estimate, propagated, innovation}
 use Rattle.filtering.specs.Linear.{correction, update}
 use Rattle.filtering.proofs.Shapes.{Way, stopped, went}
 use Rattle.steps.specs.Step.{Rows, updatedRows}
-use Rattle.steps.specs.Road.{asOne, updatedOf}
-use Rattle.kalman.specs.Record.{flatsOf, flat}
-
--- one number is all of a vector
-one-number : (y : Vector) → length y ≡ 1 → at y 0 ∷ [] ≡ y
-one-number y l = ap (λ (k : ℕ). table k (at y)) (sym l) ∙ table-getD y nan
+use Rattle.steps.specs.Flat.{flat}
+use Rattle.steps.specs.Road.{updatedOf}
+use Rattle.steps.proofs.Records.{one-number}
+use Rattle.kalman.specs.Record.{flatsOf}
 
 -- ---- what is left and told in the numbers x and p of a record
 module _ (x p : List Float) where
@@ -58,12 +56,3 @@ module _ (x p : List Float) where
       let b : k ≡ j = cc (ap (λ (d : ScalarResult × Estimate). d .0) q) in
       λ t. ((f ∙ ap (λ (k : ℕ). asVector (refused k)) b) t, (x, p))
   road-refused e (went y e′ l s) q a f = absurd (differ (sym (refused-number (answered (at y 0)) (λ t. q t .0) a)))
-
--- ---- what an update tells as the vector v, as a number: by its status
-pub one-value : {n : ℕ} {o : Outcome Estimate Vector} {v : VectorResult} → Way n 1 o → v ≡ asVector (o .told) → v .status ≡ Done → Scalar.Value (at (v .cells) 0) ≡ asOne (o .told)
-one-value (stopped k) q s = absurd (done-not-refused (sym s ∙ λ t. q t .status))
-one-value (went y e l w) q s = ap Scalar.Value ((λ t. at (q t .cells) 0) ∙ ap (λ (u : Vector). at (padRow u) 0) (sym (one-number y l)))
-
-pub one-no-value : {n : ℕ} {o : Outcome Estimate Vector} {v : VectorResult} {k : ℕ} → Way n 1 o → v ≡ asVector (o .told) → v .status ≡ Refused k → Scalar.Refused k ≡ asOne (o .told)
-one-no-value {k = k} (stopped j) q s = let e : _≡_ {A = Status} (Refused k) (Refused j) = sym s ∙ (λ t. q t .status) in cc
-one-no-value (went y e l w) q s = absurd (done-not-refused ((λ t. sym q t .status) ∙ s))

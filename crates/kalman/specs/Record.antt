@@ -6,32 +6,23 @@ use Rattle.answer.specs.Answer.{Answer, where-sized}
 use Rattle.answer.specs.Outcome.{Outcome, into, if-fitting, standing, handed}
 use Rattle.answer.specs.Told.{statusOf}
 use Rattle.algebra.specs.Matrix.{Vector, Matrix}
-use Rattle.algebra.specs.Array.{cut, used, usedFlat, padRow, pad, flatOfRows}
+use Rattle.algebra.specs.Array.{cut, usedFlat, padRow}
 use Rattle.matrix.specs.declared.MatrixResult.{MatrixResult}
 use Rattle.matrix.specs.declared.VectorResult.{VectorResult}
 use Rattle.matrix.specs.Result.{asMatrix, asVector}
 use Rattle.filtering.specs.Filter.{Motion, Sensor, Estimate, estimate}
 use Rattle.filtering.specs.Linear.{predict, update, trackerMotion, trackerSensor, atStart}
 use Rattle.steps.specs.Step.{wellSized, fitting}
+use Rattle.steps.specs.Flat.{flat, motionFlat, sensorFlat, estimateFrom}
 use Rattle.steps.specs.Road.{asOne}
 use Rattle.kalman.specs.declared.KalmanFilter.{KalmanFilter}
 use Rattle.kalman.specs.declared.Stepped.{Stepped}
 use Rattle.kalman.specs.declared.Updated.{Updated}
 use Rattle.kalman.specs.declared.UpdatedOne.{UpdatedOne}
 
--- ---- what the numbers of a record hold: its matrices stand flat
-abbrev pub motionFlat : ℕ → ℕ → List Float → List Float → List Float → Motion
-motionFlat n i a b q = record { n = n; i = i; a = usedFlat n n a; b = usedFlat n i b; q = usedFlat n n q }
-
-abbrev pub sensorFlat : ℕ → ℕ → List Float → List Float → Sensor Matrix
-sensorFlat n m h r = record { n = n; m = m; h = usedFlat m n h; r = usedFlat m m r }
-
+-- ---- an estimate in the numbers x and p
 abbrev pub estimateFlat : ℕ → List Float → List Float → Estimate
 estimateFlat n x p = estimate (cut n x) (usedFlat n n p)
-
--- a matrix in a record: its rows of four, +0 outside its sizes; an estimate in the numbers x and p
-abbrev pub flat : Matrix → List Float
-flat A = flatOfRows (pad A)
 
 abbrev pub flatsOf : Estimate → List Float × List Float
 flatsOf e = (padRow (e .state), flat (e .covariance))
@@ -47,7 +38,7 @@ predictFlat n i a b q u x p = predict (motionFlat n i a b q) (cut i u) (estimate
 abbrev pub updateFlat : ℕ → ℕ → List Float → List Float → Vector → List Float → List Float → Outcome Estimate Vector
 updateFlat n m h r z x p = update (sensorFlat n m h r) z (estimateFlat n x p)
 
--- ---- a record of a model and an estimate, and what is given for one in arrays of rows
+-- ---- a record of a model and an estimate
 abbrev pub recordOf : Motion → Sensor Matrix → Estimate → KalmanFilter
 recordOf M Y e = record {
   n = M.n;
@@ -61,15 +52,6 @@ recordOf M Y e = record {
   x = padRow (e .state);
   p = flat (e .covariance);
 }
-
-abbrev pub motionFrom : ℕ → ℕ → List (List Float) → List (List Float) → List (List Float) → Motion
-motionFrom n i a b q = record { n = n; i = i; a = used n n a; b = used n i b; q = used n n q }
-
-abbrev pub sensorFrom : ℕ → ℕ → List (List Float) → List (List Float) → Sensor Matrix
-sensorFrom n m h r = record { n = n; m = m; h = used m n h; r = used m m r }
-
-abbrev pub estimateFrom : ℕ → List Float → List (List Float) → Estimate
-estimateFrom n x p = estimate (cut n x) (used n n p)
 
 -- the record with the numbers w for its state and its covariance; its model stays as it stands
 abbrev pub keeping : KalmanFilter → List Float × List Float → KalmanFilter

@@ -2,3 +2,5 @@ pub mod Sizes
 pub mod Vectors
 pub mod Ways
 pub mod Roads
+pub mod Flats
+pub mod Records

@@ -1,6 +1,7 @@
 -- `predict_rows` meets its contract: the rows that it reads are those of the model and the estimate.
 use mathlib.Core.Path.{_∙_}
-use Rattle.kalman.proofs.Steps.{read-motion, read-estimate, rows-predicted}
+use Rattle.steps.proofs.Flats.{read-motion}
+use Rattle.kalman.proofs.Steps.{read-estimate, rows-predicted}
 use Rattle.filtering.specs.Linear.{predict}
 use Rattle.matrix.specs.Size.{front}
 use Rattle.steps.specs.Step.{leftRows}

@@ -5,7 +5,7 @@ use Rattle.matrix.proofs.Sizes.{is-count}
 use Rattle.matrix.proofs.Results.{as-answered, as-refused}
 use Rattle.steps.proofs.Sizes.{well-sized}
 use Rattle.kalman.specs.Record.{made}
-use Rattle.kalman.proofs.Records.{leading-of, flat-of}
+use Rattle.steps.proofs.Flats.{leading-of, flat-of}
 use Rattle.kalman.proofs.KalmanFilter.new.Statement.{statement}
 use Rattle.kalman.proofs.KalmanFilter.new.Tie as tie
 

@@ -1,14 +1,14 @@
 -- `predict` meets its contract: the record around the numbers of the step.
 use Rattle.answer.specs.Told.{statusOf}
-use Rattle.kalman.specs.Record.{predicting}
-use Rattle.kalman.proofs.Records.{around}
+use Rattle.steps.proofs.Records.{around}
+use Rattle.kalman.specs.Record.{flatsOf, keeping, predicting}
 use Rattle.kalman.proofs.KalmanFilter.predict.Statement.{statement}
 use Rattle.kalman.proofs.KalmanFilter.predict.Tie as tie
 
 returns : tie.Need-returns
 returns c =
     let a = c .before .before .before .before .before .before .before .before .before .before .args in
-    let e = around statusOf (a .t1) (predicting (a .t1) (a .t2) (a .k)) (c .predict-in .ensures) in
+    let e = around statusOf flatsOf (keeping (a .t1)) (a .t1 .x, a .t1 .p) (predicting (a .t1) (a .t2) (a .k)) (c .predict-in .ensures) in
     λ i. record { answer = e i .0; filter = e i .1 }
 
 pub predict-spec : {M : Type 1} → statement M

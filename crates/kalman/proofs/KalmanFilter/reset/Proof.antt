@@ -4,9 +4,10 @@ use Rattle.answer.specs.declared.Status.the-variants.{Done}
 use Rattle.answer.specs.Outcome.{into}
 use Rattle.matrix.proofs.Sizes.{is-count}
 use Rattle.matrix.proofs.Results.{as-answered, as-refused}
-use Rattle.kalman.specs.Record.{keeping, estimateFrom, stepped}
+use Rattle.steps.specs.Flat.{estimateFrom}
+use Rattle.kalman.specs.Record.{keeping, stepped}
 use Rattle.steps.proofs.Sizes.{fits}
-use Rattle.kalman.proofs.Records.{leading-of, flat-of}
+use Rattle.steps.proofs.Flats.{leading-of, flat-of}
 use Rattle.kalman.proofs.KalmanFilter.reset.Statement.{statement}
 use Rattle.kalman.proofs.KalmanFilter.reset.Tie as tie
 
