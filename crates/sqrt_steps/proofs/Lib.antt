@@ -1,0 +1,5 @@
+pub mod Columns
+pub mod Downdates
+pub mod Predictions
+pub mod Components
+pub mod Updates
