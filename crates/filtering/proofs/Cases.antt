@@ -16,6 +16,8 @@ cases = record {
   root-predict = refl;
   root-variance = refl;
   root-second = refl;
+  root-taken = refl;
+  root-nan = refl;
 }
 
 pub rust : Rust

@@ -3,7 +3,7 @@ use mathlib.Core.Path.{_≡_}
 use mathlib.Core.Bool.{true, false}
 use mathlib.Core.List.{[], _∷_, _++_, map}
 use lib.IntN.{pos, negsuc}
-use lib.Ieee.{Float, fin, binary64, toBits}
+use lib.Ieee.{Float, fin, nan, binary64, toBits}
 use Rattle.answer.specs.Answer.{refused, answered}
 use Rattle.answer.specs.Outcome.{Outcome, unchanged, this, onward, done}
 use Rattle.algebra.specs.Matrix.{Vector, Matrix, oneByOne, twoByTwo}
@@ -42,6 +42,16 @@ speedVariance = fin false 183983 (negsuc 5)
 
 abbrev −9 : Float
 −9 = fin true 9 (pos 0)
+
+abbrev n9 : Float
+n9 = fin false 9 (pos 0)
+
+abbrev n25 : Float
+n25 = fin false 25 (pos 0)
+
+-- the number nearest 2.4
+abbrev n2·4 : Float
+n2·4 = fin false 5404319552844595 (negsuc 50)
 
 -- two states, measured once
 abbrev sensor : Matrix → Matrix → Sensor Matrix
@@ -82,3 +92,8 @@ pub record Cases : Type 0 where
   pub root-variance : SquareRoot.update (channel (oneByOne n0) (n0 ∷ [])) (n3 ∷ []) (factored (n5 ∷ []) (oneByOne n1)) ≡ record { told = refused 3; left = unchanged }
   pub root-second : SquareRoot.update (record { n = 1; m = 2; h = oneByOne n0 ++ oneByOne n0; r = n1 ∷ n0 ∷ [] }) (n3 ∷ n4 ∷ []) (factored (n5 ∷ []) (oneByOne n1))
       ≡ record { told = refused 3; left = this (factored (n5 ∷ []) (oneByOne n1)) }
+  -- the first component moves the state to 9 and the factor to 2.4; the second has no variance
+  pub root-taken : SquareRoot.update (record { n = 1; m = 2; h = oneByOne n1 ++ oneByOne n0; r = n4 ∷ n0 ∷ [] }) (n25 ∷ n0 ∷ []) (factored (n0 ∷ []) (oneByOne n3))
+      ≡ record { told = refused 3; left = this (factored (n9 ∷ []) (oneByOne n2·4)) }
+  -- a NaN passes the test of the variance, and that of the diagonal
+  pub root-nan : SquareRoot.update (channel (oneByOne n1) (nan ∷ [])) (n3 ∷ []) (factored (n0 ∷ []) (oneByOne n1)) ≡ done (n3 ∷ []) (factored (nan ∷ []) (oneByOne nan))
