@@ -5,5 +5,5 @@ use Rattle.mixing.specs.Mixing as Mixing
 
 unfoldable pub computing : ℕ
 unfolding Algebra.computing
-    Mixing.uniform Mixing.weighted Mixing.predicted Mixing.weights Mixing.spread Mixing.mixedEstimate Mixing.mixEstimates Mixing.updateProbabilities Mixing.fusedEstimate
+    Mixing.uniform Mixing.weighted Mixing.predicted Mixing.weights Mixing.spread Mixing.mixedCovariance Mixing.mixedEstimate Mixing.mixEstimates Mixing.updateProbabilities Mixing.fusedEstimate
 computing = 0

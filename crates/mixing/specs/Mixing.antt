@@ -45,10 +45,15 @@ spread n e x =
     let d = vecSub n (e .state) x in
     mat n n (λ r c. cell (e .covariance) r c ⊕ (+0 ⊕ at d r ⊗ at d c))
 
+-- the models' spreads around x, each times its weight of w, summed. A weight of zero does not hide a spread that overflows:
+-- infinity × 0 is NaN, so beside states of 1e200 a covariance of an unlikely model is NaN where its state is zero
+unfoldable pub mixedCovariance : ℕ → ℕ → Bank → Vector → Vector → Matrix
+mixedCovariance n K B w x = mat n n (λ r c. sumOf K (λ i. cell (spread n (model B i) x) r c ⊗ at w i))
+
 unfoldable pub mixedEstimate : ℕ → ℕ → Bank → Vector → Estimate
 mixedEstimate n K B w =
     let x = weighted n K B w in
-    estimate x (mat n n (λ r c. sumOf K (λ i. cell (spread n (model B i) x) r c ⊗ at w i)))
+    estimate x (mixedCovariance n K B w x)
 
 unfoldable pub mixEstimates : ℕ → ℕ → Matrix → Bank → Bank
 mixEstimates n K T B = record {

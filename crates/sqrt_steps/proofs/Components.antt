@@ -18,7 +18,7 @@ use Rattle.answer.specs.Outcome.{Outcome, unchanged, this, final, handed, _else
 use Rattle.answer.specs.Told.{statusOf}
 use Rattle.answer.specs.Table.{table}
 use Rattle.answer.proofs.Tables.{getD-table, table-ext}
-use Rattle.algebra.specs.Matrix.{Vector, Matrix, at, cell, sum, dot, matvec, transpose, vecAdd, vecScale}
+use Rattle.algebra.specs.Matrix.{Vector, Matrix, at, cell, sumOf, dot, matvec, transpose, vecAdd, vecScale}
 use Rattle.algebra.specs.Array.{cut, padRow, pad}
 use Rattle.algebra.proofs.Matrices.{Shape, sum-ext, cell-mat}
 use Rattle.algebra.proofs.Arrays.{at-cut, cell-used, cut-padRow, shape-used}
@@ -133,8 +133,8 @@ module _ (n : Size) (h : List Float) (r z : Float) (x : List Float) (l : Rows) w
     unfolding cut rowTimes matvec transpose
     projected-is =
         ap (front n) et
-        ∙ table-ext N _ (λ i. sum N (λ j. cell (transpose N N (part n n l)) i j ⊗ at H j))
-        (λ i g. getD-table 4 (λ j. sum N (λ t. at h t ⊗ cell l t j)) i nan (le-trans g (bounds n .most))
+        ∙ table-ext N _ (λ i. sumOf N (λ j. cell (transpose N N (part n n l)) i j ⊗ at H j))
+        (λ i g. getD-table 4 (λ j. sumOf N (λ t. at h t ⊗ cell l t j)) i nan (le-trans g (bounds n .most))
         ∙ sum-ext N _ _ (λ j f. times-comm (at h j) (cell l j i) ∙ ap₂ (λ (a b : Float). a ⊗ b) (sym (cell-used N N l j i f g) ∙ sym (cell-mat N N (λ i j. cell (part n n l) j i) i j g f)) (sym (at-cut N h j f))))
 
     spread-is : {k : ℕ} {d : Float} → k ≡ N → d ≡ cond (leb k 4) (dot k t t) +0 → d ⊕ r ⊗ r ≡ spread N H r z F
