@@ -137,7 +137,9 @@ pub fn mix(
     p: &mut [[[f64; 4]; 4]; 4],
     mu: &mut [f64; 4],
 )
-    ensures { λ u. ⌜ (now (x .exit), (now (p .exit), now (mu .exit))) ≡ rowsOf (mixEstimates (count n) (count k) (part k k (now (t .entry))) (bankRows n k (now (x .entry)) (now (p .entry)) [] (now (mu .entry)))) ⌝ }
+    ensures { λ u. ⌜
+        (now (x .exit), (now (p .exit), now (mu .exit)))
+        ≡ rowsOf (mixEstimates (count n) (count k) (part k k (now (t .entry))) (bankRows n k (now (x .entry)) (now (p .entry)) [] (now (mu .entry)))) ⌝ }
 {
     let c = predicted(t, *mu, k);
     let models = number(k);

@@ -27,7 +27,10 @@ pub fn informed_matrix<'a>(
     n: Size,
     m: Size,
 ) -> [[f64; 4]; 4]
-    ensures { λ v. ⌜ v ≡ pad (informed (count n) (count m) (part m n (now (h .entry))) (part m m (now (w .entry))) [] (informationRows n (now (omega .entry)) []) .matrix) ⌝ }
+    ensures { λ v. ⌜
+        v
+        ≡ pad (informed (count n) (count m) (part m n (now (h .entry))) (part m m (now (w .entry))) [] (informationRows n (now (omega .entry)) [])
+        .matrix) ⌝ }
 {
     let ht = kernel::transposed(h, m, n);
     let rows = number(n);
@@ -49,7 +52,10 @@ pub fn informed_vector<'a>(
     n: Size,
     m: Size,
 ) -> [f64; 4]
-    ensures { λ v. ⌜ v ≡ padRow (informed (count n) (count m) (part m n (now (h .entry))) (part m m (now (w .entry))) (front m (now (z .entry))) (informationRows n [] (now (xi .entry))) .vector) ⌝ }
+    ensures { λ v. ⌜
+        v
+        ≡ padRow (informed (count n) (count m) (part m n (now (h .entry))) (part m m (now (w .entry))) (front m (now (z .entry)))
+        (informationRows n [] (now (xi .entry))) .vector) ⌝ }
 {
     let wz = kernel::product_vector(w, z, m, m);
     let ht = kernel::transposed(h, m, n);
@@ -67,7 +73,10 @@ pub fn inform<'a>(
     omega: &mut [[f64; 4]; 4],
     xi: &mut [f64; 4],
 )
-    ensures { λ r. ⌜ (now (omega .exit), now (xi .exit)) ≡ arraysOf (informed (count n) (count m) (part m n (now (h .entry))) (part m m (now (w .entry))) (front m (now (z .entry))) (informationRows n (now (omega .entry)) (now (xi .entry)))) ⌝ }
+    ensures { λ r. ⌜
+        (now (omega .exit), now (xi .exit))
+        ≡ arraysOf (informed (count n) (count m) (part m n (now (h .entry))) (part m m (now (w .entry))) (front m (now (z .entry)))
+        (informationRows n (now (omega .entry)) (now (xi .entry)))) ⌝ }
 {
     *omega = informed_matrix(omega, h, w, n, m);
     *xi = informed_vector(xi, h, w, z, n, m);
@@ -83,7 +92,10 @@ pub fn of_estimate<'a>(
     omega: &mut [[f64; 4]; 4],
     xi: &mut [f64; 4],
 ) -> Status
-    ensures { λ s. ⌜ (s, (now (omega .exit), now (xi .exit))) ≡ handed statusOf arraysOf (now (omega .entry), now (xi .entry)) (into (ofEstimate (count n) (estimateRows n (now (x .entry)) (now (p .entry))))) ⌝ }
+    ensures { λ s. ⌜
+        (s, (now (omega .exit), now (xi .exit)))
+        ≡ handed statusOf arraysOf (now (omega .entry), now (xi .entry))
+        (into (ofEstimate (count n) (estimateRows n (now (x .entry)) (now (p .entry))))) ⌝ }
 {
     let w = inverse::inverse_of(p, n);
     let status = w.status;
@@ -127,7 +139,11 @@ pub fn predict<'a>(
     omega: &mut [[f64; 4]; 4],
     xi: &mut [f64; 4],
 ) -> Status
-    ensures { λ s. ⌜ (s, (now (omega .exit), now (xi .exit))) ≡ handed statusOf arraysOf (now (omega .entry), now (xi .entry)) (predictOf (motionRows n i (now (a .entry)) (now (b .entry)) (now (q .entry))) (front i (now (u .entry))) (informationRows n (now (omega .entry)) (now (xi .entry)))) ⌝ }
+    ensures { λ s. ⌜
+        (s, (now (omega .exit), now (xi .exit)))
+        ≡ handed statusOf arraysOf (now (omega .entry), now (xi .entry))
+        (predictOf (motionRows n i (now (a .entry)) (now (b .entry)) (now (q .entry))) (front i (now (u .entry)))
+        (informationRows n (now (omega .entry)) (now (xi .entry)))) ⌝ }
 {
     let p = inverse::inverse_of(omega, n);
     let status = p.status;
@@ -154,7 +170,11 @@ pub fn update_by<'a>(
     omega: &mut [[f64; 4]; 4],
     xi: &mut [f64; 4],
 ) -> VectorResult
-    ensures { λ v. ⌜ (v, (now (omega .exit), now (xi .exit))) ≡ handed asVector arraysOf (now (omega .entry), now (xi .entry)) (updateBy (sensorRows n m (now (h .entry)) []) (front m (now (z .entry))) (informationRows n (now (omega .entry)) (now (xi .entry))) (part m m (now (w .entry)))) ⌝ }
+    ensures { λ v. ⌜
+        (v, (now (omega .exit), now (xi .exit)))
+        ≡ handed asVector arraysOf (now (omega .entry), now (xi .entry))
+        (updateBy (sensorRows n m (now (h .entry)) []) (front m (now (z .entry))) (informationRows n (now (omega .entry)) (now (xi .entry)))
+        (part m m (now (w .entry)))) ⌝ }
 {
     inform(h, w, z, n, m, omega, xi);
     let x = state(omega, xi, n);

@@ -82,7 +82,9 @@ fn with_column(l: &[[f64; 4]; 4], k: usize, column: [f64; 4]) -> [[f64; 4]; 4]
 // Column k of the n × n part of l, turned with v. Refused with 4: the diagonal.
 fn rotate(l: &mut [[f64; 4]; 4], v: &mut [f64; 4], k: usize, n: Size) -> Status
     requires { ⌜ k < count n ⌝ }
-    ensures { λ r. ⌜ (r, (now (l .exit), now (v .exit))) ≡ rotatedRows (now (l .entry)) (now (v .entry)) (rotateOf (count n) k (part n n (now (l .entry))) (front n (now (v .entry)))) ⌝ }
+    ensures { λ r. ⌜
+        (r, (now (l .exit), now (v .exit)))
+        ≡ rotatedRows (now (l .entry)) (now (v .entry)) (rotateOf (count n) k (part n n (now (l .entry))) (front n (now (v .entry)))) ⌝ }
 {
     let diagonal = l[k][k];
     let vk = v[k];
@@ -146,7 +148,10 @@ pub fn component<'a>(
     x: &mut [f64; 4],
     l: &mut [[f64; 4]; 4],
 ) -> ScalarResult
-    ensures { λ v. ⌜ (v, (now (x .exit), now (l .exit))) ≡ handed asOne arraysOf (now (x .entry), now (l .entry)) (componentOf (count n) (front n (now (h .entry))) r z (factoredRows n (now (x .entry)) (now (l .entry))) []) ⌝ }
+    ensures { λ v. ⌜
+        (v, (now (x .exit), now (l .exit)))
+        ≡ handed asOne arraysOf (now (x .entry), now (l .entry))
+        (componentOf (count n) (front n (now (h .entry))) r z (factoredRows n (now (x .entry)) (now (l .entry))) []) ⌝ }
 {
     let k = number(n);
     let y = z - kernel::dot(h, x, k);
@@ -189,7 +194,11 @@ pub fn predict<'a>(
     x: &mut [f64; 4],
     l: &mut [[f64; 4]; 4],
 ) -> Status
-    ensures { λ s. ⌜ (s, (now (x .exit), now (l .exit))) ≡ handed statusOf arraysOf (now (x .entry), now (l .entry)) (predictOf (motionRows n i (now (a .entry)) (now (b .entry)) (now (q .entry))) (front i (now (u .entry))) (factoredRows n (now (x .entry)) (now (l .entry)))) ⌝ }
+    ensures { λ s. ⌜
+        (s, (now (x .exit), now (l .exit)))
+        ≡ handed statusOf arraysOf (now (x .entry), now (l .entry))
+        (predictOf (motionRows n i (now (a .entry)) (now (b .entry)) (now (q .entry))) (front i (now (u .entry)))
+        (factoredRows n (now (x .entry)) (now (l .entry)))) ⌝ }
 {
     let p = covariance(l, n);
     *x = steps::predicted_state(a, b, x, u, n, i);
@@ -219,7 +228,10 @@ pub fn update<'a>(
     x: &mut [f64; 4],
     l: &mut [[f64; 4]; 4],
 ) -> VectorResult
-    ensures { λ v. ⌜ (v, (now (x .exit), now (l .exit))) ≡ handed asVector arraysOf (now (x .entry), now (l .entry)) (updateOf (channelRows n m (now (h .entry)) (now (r .entry))) (front m (now (z .entry))) (factoredRows n (now (x .entry)) (now (l .entry)))) ⌝ }
+    ensures { λ v. ⌜
+        (v, (now (x .exit), now (l .exit)))
+        ≡ handed asVector arraysOf (now (x .entry), now (l .entry))
+        (updateOf (channelRows n m (now (h .entry)) (now (r .entry))) (front m (now (z .entry))) (factoredRows n (now (x .entry)) (now (l .entry)))) ⌝ }
 {
     let components = number(m);
     let mut y = [0.0; 4];
