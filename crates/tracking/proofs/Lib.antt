@@ -1,2 +1,4 @@
 pub mod Computing
 pub mod Cases
+pub mod Latest
+pub mod Laws

@@ -73,11 +73,16 @@ module _ (M : Motion) (Y : Sensor Matrix) where
 unfoldable pub rejects : ℕ → Slot → Bool
 rejects n s = elim (inv n (s .predicted .covariance)) [ refused k ↦ true | answered W ↦ false ]
 
+-- the place found among later slots, counted from the slot before them; else that slot's own, if it is rejected
+abbrev pub orHere : Bool → Option ℕ → Option ℕ
+orHere here (some k) = some (suc k)
+orHere here none = cond here (some 0) none
+
 -- the latest slot before the last that is rejected, from 0
 unfoldable pub latest : ℕ → List Slot → Option ℕ
 latest n [] = none
 latest n (s ∷ []) = none
-latest n (s ∷ t ∷ l) = elim (latest n (t ∷ l)) [ some k ↦ some (suc k) | none ↦ cond (rejects n s) (some 0) none ]
+latest n (s ∷ t ∷ l) = orHere (rejects n s) (latest n (t ∷ l))
 
 -- ---- all readings, filtered and then smoothed
 
@@ -86,7 +91,7 @@ abbrev pub refusedAt : {R : Type 0} → Option ℕ → Tracked (List R)
 refusedAt (some k) = rejected k
 refusedAt none = tracked []
 
--- the slots l of the duty d, smoothed: f of each slot and its smoothed pair
+-- the slots of the duty d, smoothed: f of each slot and its smoothed pair
 unfoldable pub smoothedBy : {R : Type 0} → (Slot → Estimate → R) → Duty → Tracked (List R)
 smoothedBy f d = elim (smooth d) [ refused k ↦ refusedAt (latest (d .size) (d .slots)) | answered r ↦ tracked (zipWith f (d .slots) r) ]
 
