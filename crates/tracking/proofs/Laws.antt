@@ -28,7 +28,7 @@ Places k n (rejected j) = (k ≤ j) × (j < k + n)
 Places k n (tracked s) = length s ≡ n
 
 module _ (M : Motion) (Y : Sensor Matrix) where
-  further : (k n : ℕ) (f : Estimate) (o : Tracked (List Slot)) → Places (suc k) n o → Places k (suc n) (and-then o λ s. tracked (slotOf M Y f ∷ s))
+  further : (k n : ℕ) (f : Estimate) (o : Tracked (List Slot)) → Places (suc k) n o → Places k (suc n) (and-then o λ s. tracked (slotOf M f ∷ s))
   further k n f (rejected j) p = (omega arith, omega arith)
   further k n f (tracked s) p = ap suc p
 
@@ -38,7 +38,7 @@ module _ (M : Motion) (Y : Sensor Matrix) where
   places k e (z ∷ l) = go (filter M Y z e) (λ f. places (suc k) f l)
     where
       go : (a : Answer Estimate) → ((f : Estimate) → Places (suc k) (length l) (slotsFrom M Y (suc k) f l))
-          → Places k (suc (length l)) (and-then (at-reading k a) λ f. and-then (slotsFrom M Y (suc k) f l) λ s. tracked (slotOf M Y f ∷ s))
+          → Places k (suc (length l)) (and-then (at-reading k a) λ f. and-then (slotsFrom M Y (suc k) f l) λ s. tracked (slotOf M f ∷ s))
       go (refused j) h = (omega arith, omega arith)
       go (answered f) h = further k (length l) f (slotsFrom M Y (suc k) f l) (h f)
 

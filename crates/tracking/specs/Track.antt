@@ -44,28 +44,28 @@ at-reading k (refused j) = rejected k
 at-reading k (answered a) = tracked a
 
 -- ---- a reading, with the motion M and the sensor Y
-module _ (M : Motion) (Y : Sensor Matrix) where
-  -- one predict, with input zero
-  unfoldable pub moved : Estimate → Estimate
-  moved e = final e (predict M (replicate M.i +0) e .left)
 
-  -- an update if there is a reading
-  unfoldable pub corrected : Option Vector → Estimate → Answer Estimate
-  corrected none e = answered e
-  corrected (some z) e = let o = update Y z e in mapped (λ y. final e (o .left)) (o .told)
+-- one predict, with input zero
+unfoldable pub moved : Motion → Estimate → Estimate
+moved M e = final e (predict M (replicate M.i +0) e .left)
 
-  -- a reading is one predict, then an update if there is a reading
-  unfoldable pub filter : Option Vector → Estimate → Answer Estimate
-  filter z e = corrected z (moved e)
+-- an update if there is a reading
+unfoldable pub corrected : Sensor Matrix → Option Vector → Estimate → Answer Estimate
+corrected Y none e = answered e
+corrected Y (some z) e = let o = update Y z e in mapped (λ y. final e (o .left)) (o .told)
 
-  -- what is stored then: the estimate, and a further predict of a copy
-  unfoldable pub slotOf : Estimate → Slot
-  slotOf e = record { filtered = e; predicted = moved e }
+-- a reading is one predict, then an update if there is a reading
+unfoldable pub filter : Motion → Sensor Matrix → Option Vector → Estimate → Answer Estimate
+filter M Y z e = corrected Y z (moved M e)
 
-  -- the slots of readings that begin with reading k, from the estimate e on
-  unfoldable pub slotsFrom : ℕ → Estimate → List (Option Vector) → Tracked (List Slot)
-  slotsFrom k e [] = tracked []
-  slotsFrom k e (z ∷ l) = and-then (at-reading k (filter z e)) λ f. and-then (slotsFrom (suc k) f l) λ s. tracked (slotOf f ∷ s)
+-- what is stored then: the estimate, and a further predict of a copy
+unfoldable pub slotOf : Motion → Estimate → Slot
+slotOf M e = record { filtered = e; predicted = moved M e }
+
+-- the slots of readings that begin with reading k, from the estimate e on
+unfoldable pub slotsFrom : Motion → Sensor Matrix → ℕ → Estimate → List (Option Vector) → Tracked (List Slot)
+slotsFrom M Y k e [] = tracked []
+slotsFrom M Y k e (z ∷ l) = and-then (at-reading k (filter M Y z e)) λ f. and-then (slotsFrom M Y (suc k) f l) λ s. tracked (slotOf M f ∷ s)
 
 -- ---- where smoothing is refused
 
