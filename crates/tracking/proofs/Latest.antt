@@ -1,9 +1,9 @@
 -- The latest slot rejected: where `latest` finds it, and that it is where smoothing is refused with 3. Assumes nothing.
-use Prim.Native.Nat.{ℕ, zero, suc}
+use Prim.Native.Nat.{ℕ, zero, suc, _<_}
 use native.Mathlib.Omega.{arith}
 use mathlib.Core.Path.{_≡_, refl, sym, ap, _∙_, subst}
 use mathlib.Core.Bool.{Bool, true, false, cond}
-use mathlib.Core.Option.{Option, none, some}
+use mathlib.Core.Option.{Option, none, some, Option·getD}
 use mathlib.Core.Logic.{_⊎_, inl, inr}
 use mathlib.Core.List.{List, [], _∷_, zipWith}
 use lib.ListN.{length, drop}
@@ -134,3 +134,15 @@ module _ {R : Type 0} (f : Slot → Estimate → R) (d : Duty) where
   pub smoothed-answered : {r : List Estimate} → smooth d ≡ answered r → smoothedBy f d ≡ tracked (zipWith f (d .slots) r)
   unfolding smoothedBy
   smoothed-answered e = ap told e
+
+  -- the same as a number, where there is a slot
+  pub smoothed-rejected : (k : ℕ) → smooth d ≡ refused k → 0 < length (d .slots) → smoothedBy f d ≡ rejected (Option·getD (latest (d .size) (d .slots)) 0)
+  smoothed-rejected k e h = smoothed-refused e ∙ go (latest (d .size) (d .slots)) (search (d .size) (d .slots))
+    where
+      go : (o : Option ℕ) → Search (d .size) (d .slots) o → refusedAt {R = R} o ≡ rejected (Option·getD o 0)
+      go (some j) x = refl
+      go none (nothing free) = absurd (none-left (demand3 .refusals d k .0 e))
+        where
+          none-left : ((d .slots ≡ []) × (k ≡ 2)) ⊎ (BeforeLast (Rejected (d .size)) (d .slots) × (k ≡ 3)) → ⊥
+          none-left (inl p) = omega (arith, ap length (p .0), h)
+          none-left (inr p) = free (p .0)

@@ -1,0 +1,5 @@
+pub mod Readings
+pub mod Storing
+pub mod Searching
+pub mod Told
+pub mod Ways

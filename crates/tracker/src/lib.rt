@@ -1,0 +1,233 @@
+// From settings and readings to filtered and smoothed positions: the middle of the depot sheet, by the numbers of one road.
+// A slot is twelve numbers, as rts_pass reads it: the state and its covariance by rows, then the predicted pair.
+ghost use mathlib.Core.Path.{_≡_};
+ghost use Prim.Native.Nat.{_+_, _*_, _≤_};
+ghost use lib.ListN.{length, take};
+ghost use mathlib.Core.List.{map};
+ghost use Rattle.layout.specs.Layout.{placed};
+ghost use Rattle.steps.specs.Road.{matrixOf, estimateOf};
+ghost use Rattle.rts_pass.specs.Buffer.{slotNumbers, slotsOf};
+ghost use Rattle.rts_pass.specs.Pass.{slotOfTwo};
+ghost use Rattle.tracking.specs.Track.{moved as movedOf, corrected as correctedOf, slotsFrom, track as trackOf};
+ghost use Rattle.tracker.specs.Tracked.{motionIn, sensorIn, readingOf, measuredOf, answerOf, trackedOf, latestOf, gatheredFrom, smoothedOf, rejectedAt, settingsOf, trackIn};
+use answer::Status;
+use matrix::ScalarResult;
+use scalar::ControlScalar;
+use steps::road;
+use steps::road::Pair;
+use steps::road::Road;
+use steps::road::Two;
+
+// A wheel distance in metres; where none was taken, metres play no part.
+pub struct Reading {
+    pub taken: bool,
+    pub metres: f64,
+}
+
+// Seconds from reading to reading, and the noises of the process and of the measurement.
+pub struct Settings {
+    pub step: f64,
+    pub process: f64,
+    pub measurement: f64,
+}
+
+// Refused with 3 at a reading, from 0, beside arrays of +0; or the positions of the readings, and +0 past them.
+pub struct Positions {
+    pub refused: bool,
+    pub reading: usize,
+    pub filtered: [f64; 64],
+    pub smoothed: [f64; 64],
+}
+
+// An estimate beside its case; beside a refusal it says nothing.
+struct Filtered {
+    answer: Status,
+    pair: Pair,
+}
+
+// The reading at which the filter was refused, if it was.
+enum Place {
+    At(usize),
+    Nowhere,
+}
+
+// ---- a reading
+
+// One predict, with input zero.
+fn moved(f: Road, e: Pair) -> Pair
+    ensures { λ r. ⌜ estimateOf r ≡ movedOf (motionIn f) (estimateOf e) ⌝ }
+{
+    let a = f.a;
+    let q = f.q;
+    road::predict(a, f.b0, f.b1, q, 0.0, e)
+}
+
+// An update if there is a reading.
+fn corrected(f: Road, reading: Reading, e: Pair) -> Filtered
+    ensures { λ r. ⌜ answerOf (r .answer) (estimateOf (r .pair)) ≡ correctedOf (sensorIn f) (measuredOf reading) (estimateOf e) ⌝ }
+{
+    if reading.taken {
+        let updated = road::update(f.h0, f.h1, f.r, reading.metres, e);
+        let answer = updated.answer;
+        let pair = updated.pair;
+        match answer {
+            ScalarResult::Value(innovation) => Filtered {
+                answer: Status::Done,
+                pair,
+            },
+            ScalarResult::Refused(number) => Filtered {
+                answer: Status::Refused(number),
+                pair: e,
+            },
+        }
+    } else {
+        Filtered {
+            answer: Status::Done,
+            pair: e,
+        }
+    }
+}
+
+// ---- slots
+
+// The slot of the filtered pair e and the predicted pair y from number k on.
+fn put_slot(slots: &mut [f64], k: usize, e: Pair, y: Pair)
+    requires { ⌜ k + 12 ≤ length (now slots) ⌝ }
+    ensures { λ u. ⌜ now (slots .exit) ≡ placed k (slotNumbers (slotOfTwo e y)) (now (slots .entry)) ⌝ }
+{
+    let p = e.p;
+    let q = y.p;
+    slots[k] = e.x0;
+    slots[k + 1] = e.x1;
+    slots[k + 2] = p.a;
+    slots[k + 3] = p.b;
+    slots[k + 4] = p.c;
+    slots[k + 5] = p.d;
+    slots[k + 6] = y.x0;
+    slots[k + 7] = y.x1;
+    slots[k + 8] = q.a;
+    slots[k + 9] = q.b;
+    slots[k + 10] = q.c;
+    slots[k + 11] = q.d;
+}
+
+// A slot for each of the first count readings; or the first reading that is refused.
+fn filter(f: Road, readings: [Reading; 64], count: usize, slots: &mut [f64]) -> Place
+    requires { ⌜ (count ≤ 64) × (count * 12 ≤ length (now slots)) ⌝ }
+    ensures { λ r. ⌜ trackedOf r (slotsOf 2 (now (slots .exit)) count) ≡ slotsFrom (motionIn f) (sensorIn f) 0 (estimateOf (f .pair)) (map measuredOf (take count readings)) ⌝ }
+{
+    let mut e = f.pair;
+    let mut k = 0;
+    while k < count {
+        let reading = readings[k];
+        let next = corrected(f, reading, moved(f, e));
+        let answer = next.answer;
+        match answer {
+            Status::Done => {
+                e = next.pair;
+            }
+            Status::Refused(number) => {
+                return Place::At(k);
+            }
+        }
+        put_slot(slots, k * 12, e, moved(f, e));
+        k += 1;
+    }
+    Place::Nowhere
+}
+
+// The latest slot before the last whose predicted covariance inversion rejects; 0 where there is none.
+fn latest_rejected(slots: &[f64], stored: usize) -> usize
+    requires { ⌜ (1 ≤ stored) × (stored ≤ 64) × (stored * 12 ≤ length (now slots)) ⌝ }
+    ensures { λ r. ⌜ r ≡ latestOf (slotsOf 2 (now (slots .entry)) stored) ⌝ }
+{
+    let mut k = stored - 1;
+    while 0 < k {
+        k -= 1;
+        let q = k * 12 + 8;
+        let inverted = inverse::inverse_two(slots[q], slots[q + 1], slots[q + 2], slots[q + 3]);
+        let status = inverted.status;
+        match status {
+            Status::Done => {}
+            Status::Refused(number) => {
+                return k;
+            }
+        }
+    }
+    0
+}
+
+// ---- all readings
+
+// The numbers 0, w, 2 w and so on of b, as many as count, and +0 past them.
+fn gathered(b: &[f64], w: usize, count: usize) -> [f64; 64]
+    requires { ⌜ (count ≤ 64) × (w ≤ 12) × (1 ≤ w) × (count * w ≤ length (now b)) ⌝ }
+    ensures { λ r. ⌜ r ≡ gatheredFrom (now (b .entry)) w count ⌝ }
+{
+    let mut out = [0.0; 64];
+    for k in 0..count {
+        out[k] = b[k * w];
+    }
+    out
+}
+
+fn rejected_at(reading: usize) -> Positions
+    ensures { λ r. ⌜ r ≡ rejectedAt reading ⌝ }
+{
+    Positions {
+        refused: true,
+        reading,
+        filtered: [0.0; 64],
+        smoothed: [0.0; 64],
+    }
+}
+
+// The first stored slots smoothed, with the transition a.
+fn smoothed(slots: [f64; 768], stored: usize, a: Two) -> Positions
+    requires { ⌜ stored ≤ 64 ⌝ }
+    ensures { λ r. ⌜ r ≡ smoothedOf (matrixOf a) (slotsOf 2 slots stored) ⌝ }
+{
+    let mut pairs = [0.0; 384];
+    let transition = [
+        [a.a, a.b, 0.0, 0.0],
+        [a.c, a.d, 0.0, 0.0],
+        [0.0; 4],
+        [0.0; 4],
+    ];
+    let status = rts_pass::smooth(&slots[..], 2, 64, stored, transition, &mut pairs[..]);
+    match status {
+        Status::Done => Positions {
+            refused: false,
+            reading: 0,
+            filtered: gathered(&slots[..], 12, stored),
+            smoothed: gathered(&pairs[..], 6, stored),
+        },
+        Status::Refused(number) => {
+            if 0 < stored {
+                rejected_at(latest_rejected(&slots[..], stored))
+            } else {
+                Positions {
+                    refused: false,
+                    reading: 0,
+                    filtered: [0.0; 64],
+                    smoothed: [0.0; 64],
+                }
+            }
+        }
+    }
+}
+
+// The first count of 64 readings, filtered and smoothed; a count above 64 is all of them.
+pub fn track(settings: Settings, readings: [Reading; 64], count: usize) -> Positions
+    ensures { λ r. ⌜ r ≡ trackIn settings readings count ⌝ }
+{
+    let f = road::position_velocity(settings.step, settings.process, settings.measurement);
+    let a = f.a;
+    let used = if count < 64 { count } else { 64 };
+    let mut slots = [0.0; 768];
+    let place = filter(f, readings, used, &mut slots[..]);
+    match place {
+        Place::At(reading) => rejected_at(reading),
+        Place::Nowhere => smoothed(slots, used, a),
+    }
+}
