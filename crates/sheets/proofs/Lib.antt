@@ -1,0 +1,14 @@
+pub mod Writing
+pub mod Reading
+pub mod FieldBack
+pub mod FieldOne
+pub mod Verdicts
+pub mod Lines
+pub mod SheetBack
+pub mod SheetOne
+pub mod Counts
+pub mod Front
+pub mod Printing
+pub mod Printed
+pub mod Computing
+pub mod Cases

@@ -1,0 +1,12 @@
+pub mod Verdict
+pub mod Field
+pub mod Metres
+pub mod Line
+pub mod Sheet
+pub mod Stage
+pub mod Output
+pub mod Report
+pub mod Texts
+pub mod Text
+pub mod Promise
+pub mod Cases
