@@ -1,13 +1,13 @@
 -- A sheet that reads has as many lines as line 1 says, within the limits. Assumes nothing.
-use mathlib.Core.Path.{_≡_, refl, sym, ap, _∙_, subst}
-use mathlib.Core.Bool.{Bool, true, false, _&&_, cond}
+use mathlib.Core.Path.{_≡_, refl, subst}
+use mathlib.Core.Bool.{Bool, true, false, cond}
 use mathlib.Core.List.{List, [], _∷_, map}
-use Prim.Native.Nat.{ℕ, zero, suc, _+_, _*_, _≤_}
+use Prim.Native.Nat.{ℕ, _≤_}
 use native.Mathlib.Omega.{arith}
 use lib.Dec.{eqb}
-use lib.IntN.{ℤ, natAbs}
+use lib.IntN.{ℤ}
 use lib.ListN.{length, length-map}
-use Rattle.sheets.specs.Verdict.{Verdict, refused, given}
+use Rattle.sheets.specs.Verdict.{refused, given}
 use Rattle.sheets.specs.Line.{form, values, readLines, inRange, nth}
 use Rattle.sheets.specs.Sheet.{Rows, Sheet, headTest, endTest, readingTest, only, stagesOf, readingsOf, readingsLine, readingsAt, sheetLength, endOf, readingOf, readHead, readEnds, readReadings, readRows, readSheet}
 use Rattle.sheets.proofs.Verdicts.{and-l, and-r, then-given, mapped-given, cond-given, given-long}

@@ -1,6 +1,6 @@
 -- A number has one text in a field. Assumes nothing.
-use mathlib.Core.Path.{_≡_, refl, sym, ap, _∙_, subst}
-use mathlib.Core.Bool.{Bool, true, false, not, _&&_, _||_, cond}
+use mathlib.Core.Path.{_≡_, refl, sym, subst}
+use mathlib.Core.Bool.{Bool, true, false, not, _&&_, cond}
 use mathlib.Core.List.{List, [], _∷_}
 use mathlib.Core.Option.{Option, none, some}
 use Prim.Native.Nat.{ℕ, zero, suc, _+_, _-_, _*_, _/_, _%_, _^_, _≤_, _<_}
@@ -11,7 +11,7 @@ use native.Mathlib.Nat.{pow-succ', pow-le-pow-right, lt-of-lt-of-le, mul-assoc, 
 use lib.Dec.{leb, eqb, lit<}
 use lib.Arith.{digits-div, digits-lt}
 use borrow.Author.Tests.{eqb-true, eqb-false, leb-true, le-leb}
-use Rattle.sheets.specs.Field.{isDigit, allDigits, decimal, leadingZero, readDigits, positive, negative, readField, reaches, column, columns, writeField, holds}
+use Rattle.sheets.specs.Field.{isDigit, allDigits, decimal, leadingZero, readDigits, positive, negative, readField, reaches, columns, writeField, holds}
 use Rattle.sheets.proofs.Writing.{reaches-zero, column-digit, column-minus, column-space}
 use Rattle.sheets.proofs.FieldBack.{reaches-le, reaches-down, far}
 

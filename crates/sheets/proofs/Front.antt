@@ -1,21 +1,20 @@
 -- Only the first 1,418 bytes of a sheet decide: its longest form has 1,417. Assumes nothing.
 use mathlib.Core.Path.{_≡_, refl, sym, ap, _∙_, subst}
-use mathlib.Core.Bool.{Bool, true, false, _&&_, cond}
+use mathlib.Core.Bool.{Bool, true, false}
 use mathlib.Core.List.{List, [], _∷_}
 use Prim.Native.Nat.{ℕ, zero, suc, _+_, _*_, _≤_, _<_, min}
 use native.Mathlib.Omega.{arith}
 use native.Mathlib.Nat.{mul-suc, add-assoc, add-comm, zero-add, suc-add}
 use lib.Dec.{ltb, eqb}
 use lib.IntN.{ℤ}
-use lib.ListN.{length, take, drop, getD, length-take}
+use lib.ListN.{length, take, drop, length-take}
 use lib.Seq.{getD-take, take-take, take-nil}
 use borrow.Author.Tests.{ltb-true, ltb-false, lt-ltb, le-ltb, eqb-true, eqb-false, eq-eqb, ne-eqb}
 use Rattle.sheets.specs.Field.{readField}
 use Rattle.sheets.specs.Verdict.{Verdict, refused, given, then}
-use Rattle.sheets.specs.Line.{fieldAt, isSome, orZero, fieldsRead, form, values, readLines, nth}
+use Rattle.sheets.specs.Line.{fieldAt, fieldsRead, form, values, readLines}
 use Rattle.sheets.specs.Sheet.{Rows, headTest, endTest, readingTest, only, stagesOf, readingsOf, sheetLength, readHead, readEnds, readReadings, readEnd, readRows, readSheet}
-use Rattle.sheets.specs.Report.{answerOf, report}
-use Rattle.sheets.specs.Output.{printed}
+use Rattle.sheets.specs.Report.{report}
 use Rattle.sheets.proofs.Counts.{head-counts}
 
 drop-take : {A : Type 0} (a n : ℕ) (s : List A) → drop a (take (a + n) s) ≡ take n (drop a s)

@@ -1,15 +1,14 @@
 -- The laws of a line's form and of lines read one after another. Assumes nothing.
-use mathlib.Core.Path.{_≡_, refl, sym, ap, _∙_, subst}
-use mathlib.Core.Bool.{Bool, true, false, _&&_, cond}
-use mathlib.Core.List.{List, [], _∷_}
-use mathlib.Core.Option.{Option, none, some}
+use mathlib.Core.Path.{_≡_, refl}
+use mathlib.Core.Bool.{Bool, true, false, cond}
+use mathlib.Core.List.{List}
 use Prim.Native.Nat.{ℕ, zero, suc, _+_, _-_, _*_, _≤_, _<_}
 use native.Mathlib.Omega.{arith}
-use lib.Dec.{leb, ltb, eqb}
+use lib.Dec.{leb, ltb}
 use lib.IntN.{ℤ, pos, negsuc, natAbs}
 use lib.ListN.{length, getD}
 use borrow.Author.Tests.{ltb-true, lt-ltb, le-ltb, ne-eqb, eq-eqb, leb-true}
-use Rattle.sheets.specs.Verdict.{Verdict, refused, given, prepend}
+use Rattle.sheets.specs.Verdict.{Verdict, refused, prepend}
 use Rattle.sheets.specs.Line.{fieldAt, isSome, fieldsRead, form, values, readLines, inRange}
 use Rattle.sheets.proofs.Verdicts.{and-r, and-l, and-false, Long, long-prepend}
 

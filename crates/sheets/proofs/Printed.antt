@@ -1,8 +1,8 @@
 -- What is printed of any input: a line for each reading, or one refusal line. Assumes nothing.
-use mathlib.Core.Path.{_≡_, refl, sym, ap, _∙_, subst}
+use mathlib.Core.Path.{_≡_, refl, ap, _∙_}
 use mathlib.Core.Logic.{_⊎_, inl, inr, ⊎-elim}
-use mathlib.Core.List.{List, [], _∷_, map}
-use Prim.Native.Nat.{ℕ, _+_, _*_, _≤_}
+use mathlib.Core.List.{List, map}
+use Prim.Native.Nat.{ℕ, _+_, _≤_}
 use native.Mathlib.Omega.{arith}
 use lib.IntN.{ℤ}
 use lib.Ieee.{Float}
@@ -13,9 +13,9 @@ use Rattle.sheets.specs.Verdict.{Verdict, refused, given, then, mapped}
 use Rattle.sheets.specs.Sheet.{Sheet, readSheet}
 use Rattle.sheets.specs.Output.{refusalText, readingsText, allMetres, printed}
 use Rattle.sheets.specs.Report.{settingsOf, measuredOf, trackOf, firstLine, onLines, linesOf, answerOf, report}
-use Rattle.sheets.specs.Promise.{AnsweredSheet, RefusedSheet, Reports, joined}
+use Rattle.sheets.specs.Promise.{AnsweredSheet, RefusedSheet, Reports}
 use Rattle.sheets.proofs.Verdicts.{given-long}
-use Rattle.sheets.proofs.Counts.{Few, sheet-counted}
+use Rattle.sheets.proofs.Counts.{sheet-counted}
 use Rattle.sheets.proofs.Printing.{length-refusal, length-readings, metres-long, linesOfReadings, are-joined, length-lines, are-lines}
 use Rattle.sheets.proofs.Front.{front}
 

@@ -1,9 +1,8 @@
 -- The laws of printed lines: how long they are, one more line, and the stages on them. Assumes nothing.
-use mathlib.Core.Path.{_≡_, refl, sym, ap, _∙_, subst}
-use mathlib.Core.Bool.{Bool, true, false}
+use mathlib.Core.Path.{_≡_, refl, sym, ap}
 use mathlib.Core.List.{List, [], _∷_, _++_, append-assoc, append-nil}
 use mathlib.Core.Option.{Option, none, some}
-use Prim.Native.Nat.{ℕ, zero, suc, _+_, _*_, _≤_, min}
+use Prim.Native.Nat.{ℕ, suc, _+_, _*_, _≤_}
 use native.Mathlib.Nat.{add-zero}
 use native.Mathlib.Numerals.{add-one}
 use native.Mathlib.Omega.{arith}
@@ -11,12 +10,12 @@ use lib.IntN.{ℤ, pos}
 use lib.Ieee.{Float}
 use lib.ListN.{length, length-append}
 use Rattle.sheets.specs.Field.{writeField}
-use Rattle.sheets.specs.Verdict.{Verdict, refused, given}
+use Rattle.sheets.specs.Verdict.{Verdict}
 use Rattle.sheets.specs.Metres.{metresOf}
-use Rattle.sheets.specs.Stage.{passed, stageOf}
+use Rattle.sheets.specs.Stage.{stageOf}
 use Rattle.sheets.specs.Sheet.{Sheet}
 use Rattle.sheets.specs.Output.{lineText, refusalText, readingText, readingsText, orRefused, allMetres}
-use Rattle.sheets.specs.Promise.{ReadingLine, ReadingLines, no-more, one-more, joined}
+use Rattle.sheets.specs.Promise.{ReadingLines, no-more, one-more, joined}
 use Rattle.sheets.proofs.FieldBack.{length-field}
 use Rattle.sheets.proofs.Verdicts.{Long, long-prepend}
 

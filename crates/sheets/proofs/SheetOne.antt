@@ -1,6 +1,6 @@
 -- What reads is what is written: a line, lines one after another and a sheet have one text each. Assumes nothing.
 use mathlib.Core.Path.{_≡_, refl, sym, ap, _∙_}
-use mathlib.Core.Bool.{Bool, true, false, _&&_, cond}
+use mathlib.Core.Bool.{Bool, true, false, cond}
 use mathlib.Core.List.{List, [], _∷_, _++_}
 use mathlib.Core.Option.{Option, none, some}
 use Prim.Native.Nat.{ℕ, zero, suc, _+_, _*_, _≤_, _<_}
@@ -12,7 +12,7 @@ use lib.ListN.{length, take, drop, getD, length-take, length-drop, take-append-d
 use lib.Seq.{take-add, drop-drop, drop-cons, take-all}
 use borrow.Author.Tests.{ltb-true, eqb-true}
 use Rattle.sheets.specs.Field.{writeField}
-use Rattle.sheets.specs.Verdict.{Verdict, refused, given, prepend}
+use Rattle.sheets.specs.Verdict.{refused, given, prepend}
 use Rattle.sheets.specs.Line.{fieldAt, isSome, orZero, fieldsRead, form, values, readLines}
 use Rattle.sheets.specs.Sheet.{Rows, headTest, endTest, readingTest, stagesOf, readingsOf, only, sheetLength, readHead, readEnds, readReadings, readRows}
 use Rattle.sheets.specs.Output.{lineText}

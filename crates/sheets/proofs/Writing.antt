@@ -1,13 +1,11 @@
 -- The laws of a written column. Assumes nothing.
-use mathlib.Core.Path.{_≡_, refl, sym, ap, _∙_, subst}
-use mathlib.Core.Bool.{Bool, true, false, not, _&&_, _||_, cond}
-use mathlib.Core.List.{List, [], _∷_}
-use Prim.Native.Nat.{ℕ, zero, suc, _+_, _-_, _*_, _/_, _%_, _^_, _≤_, _<_}
+use mathlib.Core.Path.{_≡_, refl}
+use mathlib.Core.Bool.{Bool, true, false, _&&_}
+use Prim.Native.Nat.{ℕ, _+_, _-_, _/_, _%_, _^_, _<_}
 use native.Mathlib.Nat.{one-le-pow}
-use native.Mathlib.Omega.{arith}
-use lib.Dec.{leb, eqb, lit<}
+use lib.Dec.{leb, lit<}
 use borrow.Author.Tests.{ne-eqb, eq-eqb}
-use Rattle.sheets.specs.Field.{reaches, column, columns}
+use Rattle.sheets.specs.Field.{reaches, column}
 
 pub reaches-zero : (k m : ℕ) → k ≡ 0 → reaches k m ≡ true
 reaches-zero k m e = rw (eq-eqb k 0 e)

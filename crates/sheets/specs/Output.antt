@@ -1,8 +1,8 @@
 -- What is printed: lines of fields as wide as those read, without a heading. Definitions only.
 use mathlib.Core.List.{List, [], _∷_, _++_}
 use mathlib.Core.Option.{Option, none, some}
-use Prim.Native.Nat.{ℕ, zero, suc, _+_}
-use lib.IntN.{ℤ, pos, negsuc}
+use Prim.Native.Nat.{ℕ, _+_}
+use lib.IntN.{ℤ, pos}
 use lib.Ieee.{Float}
 use Rattle.sheets.specs.Field.{writeField}
 use Rattle.sheets.specs.Verdict.{Verdict, refused, given, prepend}
