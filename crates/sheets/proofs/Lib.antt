@@ -4,6 +4,7 @@ pub mod FieldBack
 pub mod FieldOne
 pub mod Verdicts
 pub mod Lines
+pub mod Sound
 pub mod SheetBack
 pub mod SheetOne
 pub mod Counts

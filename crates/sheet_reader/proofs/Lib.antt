@@ -1,0 +1,6 @@
+pub mod Fill
+pub mod Fields
+pub mod HeadLine
+pub mod EndLines
+pub mod ReadingLines
+pub mod Whole
