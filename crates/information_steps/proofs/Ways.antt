@@ -1,12 +1,12 @@
 -- The ways out of the information filter's steps, by what the inversions answer. Assumes nothing.
-use mathlib.Core.Path.{_≡_, refl, sym, ap, ap₂, _∙_}
+use mathlib.Core.Path.{_≡_, refl, sym, ap, subst, _∙_}
 use mathlib.Core.List.{List}
 use Prim.Native.Nat.{ℕ}
 use lib.ListN.{length}
 use lib.Ieee.{Float}
 use Rattle.answer.specs.declared.Status.{Status}
 use Rattle.answer.specs.declared.Status.the-variants.{Done, Refused}
-use Rattle.answer.specs.Answer.{Answer, refused, answered, mapped}
+use Rattle.answer.specs.Answer.{Answer, refused, answered, and-then, mapped}
 use Rattle.answer.specs.Outcome.{Outcome, unchanged, this, done, into, handed, _else-leave_then_}
 use Rattle.answer.specs.Told.{statusOf}
 use Rattle.answer.proofs.Answers.{differ, same-answer}
@@ -71,6 +71,16 @@ module _ (n : Size) (x : List Float) (p : Rows) {w : MatrixResult} (e : w ≡ as
   unfolding ofEstimate
   not-made s = sym (ap of (rejected n p e s))
 
+-- what it leaves is of n states
+pub made-sizes : (n : ℕ) (e : Estimate) {o : Information} → ofEstimate n e ≡ answered o → Shape n n (o .matrix) × (length (o .vector) ≡ n)
+unfolding ofEstimate
+made-sizes n e {o} q = go (inv n (e .covariance)) refl q
+  where
+    go : (a : Answer Matrix) → inv n (e .covariance) ≡ a → mapped (λ W. information n W (e .state)) a ≡ answered o → Shape n n (o .matrix) × (length (o .vector) ≡ n)
+    go (refused k) d q = absurd (differ q)
+    go (answered W) d q =
+        subst (λ (o : Information). Shape n n (o .matrix) × (length (o .vector) ≡ n)) (same-answer q) (inv-shape n (e .covariance) W d, length-matvec n n W (e .state))
+
 -- ---- the state
 module _ (n : Size) (a : Rows) (v : List Float) {w : MatrixResult} (e : w ≡ asMatrix (inv (count n) (part n n a))) where
   abbrev found : Answer Matrix → VectorResult
@@ -101,20 +111,23 @@ module _ (M : Motion) (u : Vector) (o : Information) where
       inv M.n (predictedCovariance M P) else-leave unchanged then λ W.
       done tt (information M.n W (predictedState M u (matvec M.n M.n P (o .vector))))
 
-  abbrev moved : Matrix → Estimate
+  abbrev pub moved : Matrix → Estimate
   moved P = estimate (predictedState M u (matvec M.n M.n P (o .vector))) (predictedCovariance M P)
 
-  pub predict-answered : {P : Matrix} → inv M.n (o .matrix) ≡ answered P → predict M u o ≡ into (ofEstimate M.n (moved P))
+  pub predict-into : predict M u o ≡ into (and-then (inv M.n (o .matrix)) (λ P. ofEstimate M.n (moved P)))
   unfolding predict covariance ofEstimate
-  predict-answered {P} q = ap of-covariance q ∙ go (inv M.n (predictedCovariance M P))
+  predict-into = go (inv M.n (o .matrix))
     where
-      go : (a : Answer Matrix) → (a else-leave unchanged then λ W. done tt (information M.n W (moved P .state))) ≡ into (mapped (λ W. information M.n W (moved P .state)) a)
-      go (refused k) = refl
-      go (answered W) = refl
+      last : (P : Matrix) (a : Answer Matrix) → (a else-leave unchanged then λ W. done tt (information M.n W (moved P .state))) ≡ into (mapped (λ W. information M.n W (moved P .state)) a)
+      last P (refused k) = refl
+      last P (answered W) = refl
 
-  pub predict-refused : {k : ℕ} → inv M.n (o .matrix) ≡ refused k → predict M u o ≡ record { told = refused k; left = unchanged }
-  unfolding predict covariance
-  predict-refused q = ap of-covariance q
+      go : (a : Answer Matrix) → of-covariance a ≡ into (and-then a (λ P. ofEstimate M.n (moved P)))
+      go (refused k) = refl
+      go (answered P) = last P (inv M.n (predictedCovariance M P))
+
+  pub predict-by : {a : Answer Matrix} → inv M.n (o .matrix) ≡ a → predict M u o ≡ into (and-then a (λ P. ofEstimate M.n (moved P)))
+  predict-by q = predict-into ∙ ap (λ (a : Answer Matrix). into (and-then a (λ P. ofEstimate M.n (moved P)))) q
 
 module _ (n i : Size) (a b q : Rows) (u : List Float) (w : Rows) (v : List Float) {r : MatrixResult} (e : r ≡ asMatrix (inv (count n) (part n n w))) where
   abbrev motion : Motion
@@ -136,10 +149,10 @@ module _ (n i : Size) (a b q : Rows) (u : List Float) (w : Rows) (v : List Float
       let isY : y ≡ padRow (predictedState motion (front i u) X) = ey ∙ ap (λ (t : Vector). padRow (predictedState motion (front i u) t)) isX in
       let is = estimate-back n (estimate (predictedState motion (front i u) X) (predictedCovariance motion P)) (length-predictedState motion (front i u) X) (shape-propagated (count n) (count n) (part n n a) P (part n n q)) isY ep in
       g ∙ (λ t. handed statusOf arraysOf (w, v) (into (ofEstimate (count n) (is t))))
-      ∙ sym (ap (handed statusOf arraysOf (w, v)) (predict-answered motion (front i u) start (inverted n w e s f)))
+      ∙ sym (ap (handed statusOf arraysOf (w, v)) (predict-by motion (front i u) start (inverted n w e s f)))
 
   pub not-predicted : {k : ℕ} → r .status ≡ Refused k → (Refused k, (w, v)) ≡ handed statusOf arraysOf (w, v) (predict motion (front i u) start)
-  not-predicted s = sym (ap (handed statusOf arraysOf (w, v)) (predict-refused motion (front i u) start (rejected n w e s)))
+  not-predicted s = sym (ap (handed statusOf arraysOf (w, v)) (predict-by motion (front i u) start (rejected n w e s)))
 
 -- ---- an addition, and the update by the inverted noise W
 pub shape-informed : (n m : ℕ) (H W : Matrix) (z : Vector) (o : Information) → Shape n n (informed n m H W z o .matrix)
