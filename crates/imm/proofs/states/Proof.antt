@@ -1,0 +1,11 @@
+-- `states` meets its contract: one of each model.
+use mathlib.Core.Path.{refl}
+use borrow.Author.Needs.{needs}
+use Rattle.imm.proofs.states.Statement.{statement}
+use Rattle.imm.proofs.states.Tie as tie
+
+returns : tie.Need-returns
+returns c = refl
+
+pub states-spec : {M : Type 1} → statement M
+states-spec = tie.close (tie.spec (λ c. search needs) (λ c. search needs) (λ c. search needs) (λ c. search needs) returns)
