@@ -79,7 +79,11 @@ fn predict_rows<'a>(
     omega: &mut [f64; 16],
     xi: &mut [f64; 4],
 ) -> Status
-    ensures { λ s. ⌜ (s, (now (omega .exit), now (xi .exit))) ≡ handed statusOf flatsOf (now (omega .entry), now (xi .entry)) (predictStep (motionFlat (count n) (count i) (now (a .entry)) (now (b .entry)) (now (q .entry))) (cut (count i) (now (u .entry))) (informationFlat (count n) (now (omega .entry)) (now (xi .entry)))) ⌝ }
+    ensures { λ s. ⌜
+        (s, (now (omega .exit), now (xi .exit)))
+        ≡ handed statusOf flatsOf (now (omega .entry), now (xi .entry))
+        (predictStep (motionFlat (count n) (count i) (now (a .entry)) (now (b .entry)) (now (q .entry))) (cut (count i) (now (u .entry)))
+        (informationFlat (count n) (now (omega .entry)) (now (xi .entry)))) ⌝ }
 {
     let am = kernel::from_flat(a);
     let bm = kernel::from_flat(b);
@@ -105,7 +109,11 @@ fn update_rows<'a>(
     omega: &mut [f64; 16],
     xi: &mut [f64; 4],
 ) -> VectorResult
-    ensures { λ v. ⌜ (v, (now (omega .exit), now (xi .exit))) ≡ handed asVector flatsOf (now (omega .entry), now (xi .entry)) (updateStep (sensorFlat (count n) (count m) (now (h .entry)) (now (r .entry))) (cut (count m) (now (z .entry))) (informationFlat (count n) (now (omega .entry)) (now (xi .entry)))) ⌝ }
+    ensures { λ v. ⌜
+        (v, (now (omega .exit), now (xi .exit)))
+        ≡ handed asVector flatsOf (now (omega .entry), now (xi .entry))
+        (updateStep (sensorFlat (count n) (count m) (now (h .entry)) (now (r .entry))) (cut (count m) (now (z .entry)))
+        (informationFlat (count n) (now (omega .entry)) (now (xi .entry)))) ⌝ }
 {
     let noise = kernel::from_flat(r);
     let w = inverse::inverse_of(&noise, m);
@@ -132,7 +140,10 @@ fn inform_rows<'a>(
     omega: &mut [f64; 16],
     xi: &mut [f64; 4],
 )
-    ensures { λ u. ⌜ (now (omega .exit), now (xi .exit)) ≡ flatsOf (informedFlat (count n) (count m) (now (h .entry)) (now (w .entry)) (now (z .entry)) (informationFlat (count n) (now (omega .entry)) (now (xi .entry)))) ⌝ }
+    ensures { λ u. ⌜
+        (now (omega .exit), now (xi .exit))
+        ≡ flatsOf (informedFlat (count n) (count m) (now (h .entry)) (now (w .entry)) (now (z .entry))
+        (informationFlat (count n) (now (omega .entry)) (now (xi .entry)))) ⌝ }
 {
     let hm = kernel::from_flat(h);
     let wm = kernel::from_flat(w);
@@ -148,7 +159,10 @@ fn reset_rows<'a>(
     omega: &mut [f64; 16],
     xi: &mut [f64; 4],
 ) -> Status
-    ensures { λ s. ⌜ (s, (now (omega .exit), now (xi .exit))) ≡ handed statusOf flatsOf (now (omega .entry), now (xi .entry)) (into (ofEstimate (count n) (estimateFrom (count n) (now (x .entry)) (now (p .entry))))) ⌝ }
+    ensures { λ s. ⌜
+        (s, (now (omega .exit), now (xi .exit)))
+        ≡ handed statusOf flatsOf (now (omega .entry), now (xi .entry))
+        (into (ofEstimate (count n) (estimateFrom (count n) (now (x .entry)) (now (p .entry))))) ⌝ }
 {
     let mut rows = [[0.0; 4]; 4];
     let answer = information_steps::of_estimate(x, p, n, &mut rows, xi);
@@ -175,7 +189,11 @@ fn predict_in<'a>(
     omega: &mut [f64; 16],
     xi: &mut [f64; 4],
 ) -> Status
-    ensures { λ s. ⌜ (s, (now (omega .exit), now (xi .exit))) ≡ handed statusOf flatsOf (now (omega .entry), now (xi .entry)) (if-fitting (fitting n m i i k) (predictStep (motionFlat n i (now (a .entry)) (now (b .entry)) (now (q .entry))) (cut i (now (u .entry))) (informationFlat n (now (omega .entry)) (now (xi .entry))))) ⌝ }
+    ensures { λ s. ⌜
+        (s, (now (omega .exit), now (xi .exit)))
+        ≡ handed statusOf flatsOf (now (omega .entry), now (xi .entry))
+        (if-fitting (fitting n m i i k) (predictStep (motionFlat n i (now (a .entry)) (now (b .entry)) (now (q .entry))) (cut i (now (u .entry)))
+        (informationFlat n (now (omega .entry)) (now (xi .entry))))) ⌝ }
 {
     if is_fitting(n, m, i, i, k) {
         return predict_rows(a, b, q, u, size_of(n), size_of(i), omega, xi);
@@ -194,7 +212,11 @@ fn update_in<'a>(
     omega: &mut [f64; 16],
     xi: &mut [f64; 4],
 ) -> VectorResult
-    ensures { λ v. ⌜ (v, (now (omega .exit), now (xi .exit))) ≡ handed asVector flatsOf (now (omega .entry), now (xi .entry)) (if-fitting (fitting n m i m k) (updateStep (sensorFlat n m (now (h .entry)) (now (r .entry))) (cut m (now (z .entry))) (informationFlat n (now (omega .entry)) (now (xi .entry))))) ⌝ }
+    ensures { λ v. ⌜
+        (v, (now (omega .exit), now (xi .exit)))
+        ≡ handed asVector flatsOf (now (omega .entry), now (xi .entry))
+        (if-fitting (fitting n m i m k) (updateStep (sensorFlat n m (now (h .entry)) (now (r .entry))) (cut m (now (z .entry)))
+        (informationFlat n (now (omega .entry)) (now (xi .entry))))) ⌝ }
 {
     if is_fitting(n, m, i, m, k) {
         return update_rows(h, r, z, size_of(n), size_of(m), omega, xi);
@@ -215,7 +237,11 @@ fn fuse_in<'a>(
     omega: &mut [f64; 16],
     xi: &mut [f64; 4],
 ) -> Status
-    ensures { λ s. ⌜ (s, (now (omega .exit), now (xi .exit))) ≡ handed statusOf flatsOf (now (omega .entry), now (xi .entry)) (if-fitting (fusible n m i k j) (fusedFlat n m (now (h .entry)) (now (w .entry)) (now (z .entry)) (informationFlat n (now (omega .entry)) (now (xi .entry))))) ⌝ }
+    ensures { λ s. ⌜
+        (s, (now (omega .exit), now (xi .exit)))
+        ≡ handed statusOf flatsOf (now (omega .entry), now (xi .entry))
+        (if-fitting (fusible n m i k j) (fusedFlat n m (now (h .entry)) (now (w .entry)) (now (z .entry))
+        (informationFlat n (now (omega .entry)) (now (xi .entry))))) ⌝ }
 {
     if both(is_fitting(n, m, i, n, k), m == j) {
         inform_rows(h, w, z, size_of(n), size_of(m), omega, xi);
@@ -234,7 +260,10 @@ fn reset_in<'a>(
     omega: &mut [f64; 16],
     xi: &mut [f64; 4],
 ) -> Status
-    ensures { λ s. ⌜ (s, (now (omega .exit), now (xi .exit))) ≡ handed statusOf flatsOf (now (omega .entry), now (xi .entry)) (if-fitting (fitting n m i n k) (into (ofEstimate n (estimateFrom n (now (x .entry)) (now (p .entry)))))) ⌝ }
+    ensures { λ s. ⌜
+        (s, (now (omega .exit), now (xi .exit)))
+        ≡ handed statusOf flatsOf (now (omega .entry), now (xi .entry))
+        (if-fitting (fitting n m i n k) (into (ofEstimate n (estimateFrom n (now (x .entry)) (now (p .entry)))))) ⌝ }
 {
     if is_fitting(n, m, i, n, k) {
         return reset_rows(x, p, size_of(n), omega, xi);

@@ -75,7 +75,11 @@ fn predict_in<'a>(
     x: &mut [f64; 4],
     s: &mut [f64; 16],
 ) -> Status
-    ensures { λ w. ⌜ (w, (now (x .exit), now (s .exit))) ≡ handed statusOf flatsOf (now (x .entry), now (s .entry)) (if-fitting (fitting n m i i k) (predictStep (motionFlat n i (now (a .entry)) (now (b .entry)) (now (q .entry))) (cut i (now (u .entry))) (factoredFlat n (now (x .entry)) (now (s .entry))))) ⌝ }
+    ensures { λ w. ⌜
+        (w, (now (x .exit), now (s .exit)))
+        ≡ handed statusOf flatsOf (now (x .entry), now (s .entry))
+        (if-fitting (fitting n m i i k) (predictStep (motionFlat n i (now (a .entry)) (now (b .entry)) (now (q .entry))) (cut i (now (u .entry)))
+        (factoredFlat n (now (x .entry)) (now (s .entry))))) ⌝ }
 {
     if is_fitting(n, m, i, i, k) {
         let am = kernel::from_flat(a);
@@ -100,7 +104,11 @@ fn update_in<'a>(
     x: &mut [f64; 4],
     s: &mut [f64; 16],
 ) -> VectorResult
-    ensures { λ v. ⌜ (v, (now (x .exit), now (s .exit))) ≡ handed asVector flatsOf (now (x .entry), now (s .entry)) (if-fitting (fitting n m i m k) (updateStep (channelFlat n m (now (h .entry)) (now (r .entry))) (cut m (now (z .entry))) (factoredFlat n (now (x .entry)) (now (s .entry))))) ⌝ }
+    ensures { λ v. ⌜
+        (v, (now (x .exit), now (s .exit)))
+        ≡ handed asVector flatsOf (now (x .entry), now (s .entry))
+        (if-fitting (fitting n m i m k) (updateStep (channelFlat n m (now (h .entry)) (now (r .entry))) (cut m (now (z .entry)))
+        (factoredFlat n (now (x .entry)) (now (s .entry))))) ⌝ }
 {
     if is_fitting(n, m, i, m, k) {
         let hm = kernel::from_flat(h);
@@ -123,7 +131,10 @@ fn reset_in<'a>(
     x: &mut [f64; 4],
     s: &mut [f64; 16],
 ) -> Status
-    ensures { λ w. ⌜ (w, (now (x .exit), now (s .exit))) ≡ handed statusOf flatsOf (now (x .entry), now (s .entry)) (into (if-sized (fitting n m i n k) (ofEstimate n (estimateFrom n (now (x0 .entry)) (now (p0 .entry)))))) ⌝ }
+    ensures { λ w. ⌜
+        (w, (now (x .exit), now (s .exit)))
+        ≡ handed statusOf flatsOf (now (x .entry), now (s .entry))
+        (into (if-sized (fitting n m i n k) (ofEstimate n (estimateFrom n (now (x0 .entry)) (now (p0 .entry)))))) ⌝ }
 {
     if is_fitting(n, m, i, n, k) {
         let size = size_of(n);

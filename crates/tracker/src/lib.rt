@@ -114,7 +114,9 @@ fn put_slot(slots: &mut [f64], k: usize, e: Pair, y: Pair)
 // A slot for each of the first count readings; or the first reading that is refused.
 fn filter(f: Road, readings: [Reading; 64], count: usize, slots: &mut [f64]) -> Place
     requires { ⌜ (count ≤ 64) × (count * 12 ≤ length (now slots)) ⌝ }
-    ensures { λ r. ⌜ trackedOf r (slotsOf 2 (now (slots .exit)) count) ≡ slotsFrom (motionIn f) (sensorIn f) 0 (estimateOf (f .pair)) (map measuredOf (take count readings)) ⌝ }
+    ensures { λ r. ⌜
+        trackedOf r (slotsOf 2 (now (slots .exit)) count)
+        ≡ slotsFrom (motionIn f) (sensorIn f) 0 (estimateOf (f .pair)) (map measuredOf (take count readings)) ⌝ }
 {
     let mut e = f.pair;
     let mut k = 0;
