@@ -17,8 +17,8 @@ use Rattle.matrix.proofs.Sizes.{is-count}
 use Rattle.filtering.specs.SquareRoot.{Factored, factored, predict, update}
 use Rattle.steps.specs.Step.{Rows, fitting}
 use Rattle.steps.proofs.Sizes.{Fits, fits}
-use Rattle.kalman.specs.Record.{motionFlat}
-use Rattle.kalman.proofs.Steps.{read}
+use Rattle.steps.specs.Flat.{motionFlat}
+use Rattle.steps.proofs.Flats.{read}
 use Rattle.sqrt_steps.specs.Step.{channelRows, factoredRows, arraysOf}
 use Rattle.sqrt_kalman.specs.declared.SqrtKalman.{SqrtKalman}
 use Rattle.sqrt_kalman.specs.Record.{channelFlat, factoredFlat, flatsOf, keeping, holding}

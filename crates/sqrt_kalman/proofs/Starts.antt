@@ -16,7 +16,7 @@ use Rattle.algebra.proofs.Arrays.{used-pad}
 use Rattle.algebra.proofs.Factors.{shape-cholesky}
 use Rattle.filtering.specs.Filter.{Motion, Sensor}
 use Rattle.filtering.specs.SquareRoot.{factored, ofEstimate}
-use Rattle.kalman.specs.Record.{flat, estimateFrom}
+use Rattle.steps.specs.Flat.{flat, estimateFrom}
 use Rattle.sqrt_kalman.specs.declared.SqrtKalman.{SqrtKalman}
 use Rattle.sqrt_kalman.specs.declared.Stepped.{Stepped}
 use Rattle.sqrt_kalman.specs.Record.{flatsOf, recordOf, factoredFrom, noFilter, made, fromCholeskyOf, newOf}

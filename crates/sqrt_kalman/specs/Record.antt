@@ -14,7 +14,7 @@ use Rattle.filtering.specs.Filter.{Motion, Sensor, Estimate}
 use Rattle.filtering.specs.SquareRoot.{Factored, factored, ofEstimate, covariance, predict, update}
 use Rattle.steps.specs.Step.{wellSized, fitting}
 use Rattle.steps.specs.Road.{asOne}
-use Rattle.kalman.specs.Record.{flat, motionFlat, estimateFrom}
+use Rattle.steps.specs.Flat.{flat, motionFlat, estimateFrom}
 use Rattle.sqrt_kalman.specs.declared.SqrtKalman.{SqrtKalman}
 use Rattle.sqrt_kalman.specs.declared.Stepped.{Stepped}
 use Rattle.sqrt_kalman.specs.declared.Updated.{Updated}

@@ -8,7 +8,7 @@ ghost use Rattle.answer.specs.Told.{statusOf};
 ghost use Rattle.matrix.specs.Result.{asVector};
 ghost use Rattle.filtering.specs.SquareRoot.{predict as predictStep, update as updateStep, ofEstimate};
 ghost use Rattle.steps.specs.Step.{fitting};
-ghost use Rattle.kalman.specs.Record.{motionFlat, motionFrom, estimateFrom};
+ghost use Rattle.steps.specs.Flat.{motionFlat, motionFrom, estimateFrom};
 ghost use Rattle.sqrt_kalman.specs.Record.{channelFlat, factoredFlat, flatsOf, channelFrom, factoredFrom, noFilter, newOf, fromCholeskyOf};
 ghost use Rattle.sqrt_kalman.specs.Record.{predictOf, updateOf, updateOneOf, resetOf, stateOf, covarianceOf, choleskyFactorOf};
 use answer::Status;

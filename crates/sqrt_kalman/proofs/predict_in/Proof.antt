@@ -4,7 +4,7 @@ use Rattle.answer.specs.Outcome.{handed}
 use Rattle.answer.specs.Told.{statusOf}
 use Rattle.matrix.specs.Size.{count, front}
 use Rattle.filtering.specs.SquareRoot.{predict}
-use Rattle.kalman.proofs.Steps.{read-motion}
+use Rattle.steps.proofs.Flats.{read-motion}
 use Rattle.sqrt_steps.specs.Step.{arraysOf}
 use Rattle.sqrt_kalman.proofs.Records.{predictBy, read-factored, rows-flat, fitted, unfit}
 use Rattle.sqrt_kalman.proofs.predict_in.Statement.{statement}

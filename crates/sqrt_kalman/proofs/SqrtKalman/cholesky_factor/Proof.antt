@@ -5,7 +5,7 @@ use Rattle.algebra.specs.Array.{pad, usedFlat}
 use Rattle.matrix.proofs.Sizes.{is-count}
 use Rattle.matrix.proofs.Results.{matrix-answered, matrix-refused}
 use Rattle.steps.proofs.Sizes.{well-sized}
-use Rattle.kalman.proofs.Steps.{read}
+use Rattle.steps.proofs.Flats.{read}
 use Rattle.sqrt_kalman.proofs.SqrtKalman.cholesky_factor.Statement.{statement}
 use Rattle.sqrt_kalman.proofs.SqrtKalman.cholesky_factor.Tie as tie
 

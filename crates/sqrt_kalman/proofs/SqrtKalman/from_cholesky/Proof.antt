@@ -4,7 +4,7 @@ use Rattle.answer.specs.declared.Status.the-variants.{Done, Refused}
 use Rattle.matrix.proofs.Sizes.{is-count}
 use Rattle.matrix.proofs.Results.{as-answered, as-refused}
 use Rattle.steps.proofs.Sizes.{well-sized}
-use Rattle.kalman.proofs.Records.{leading-of, flat-of}
+use Rattle.steps.proofs.Flats.{leading-of, flat-of}
 use Rattle.sqrt_kalman.specs.Record.{made}
 use Rattle.sqrt_kalman.proofs.SqrtKalman.from_cholesky.Statement.{statement}
 use Rattle.sqrt_kalman.proofs.SqrtKalman.from_cholesky.Tie as tie

@@ -7,7 +7,7 @@ use Rattle.matrix.specs.Size.{count, part}
 use Rattle.matrix.proofs.Sizes.{is-count}
 use Rattle.inverse.proofs.Results.{was-answered, was-refused}
 use Rattle.steps.proofs.Sizes.{well-sized}
-use Rattle.kalman.specs.Record.{motionFrom}
+use Rattle.steps.specs.Flat.{motionFrom}
 use Rattle.sqrt_steps.proofs.Predictions.{answered-rows}
 use Rattle.sqrt_kalman.specs.Record.{channelFrom}
 use Rattle.sqrt_kalman.proofs.Starts.{new-done, new-refused, new-unfit}

@@ -3,7 +3,7 @@ use mathlib.Core.Path.{sym, _∙_}
 use Rattle.matrix.proofs.Sizes.{is-count}
 use Rattle.matrix.proofs.Results.{vector-answered, vector-refused}
 use Rattle.steps.proofs.Sizes.{well-sized}
-use Rattle.kalman.proofs.Records.{leading-of}
+use Rattle.steps.proofs.Flats.{leading-of}
 use Rattle.sqrt_kalman.proofs.SqrtKalman.state.Statement.{statement}
 use Rattle.sqrt_kalman.proofs.SqrtKalman.state.Tie as tie
 
