@@ -3,7 +3,7 @@ use Prim.Native.Nat.{ℕ, zero, suc, _+_, _*_, _<_}
 use native.Mathlib.Omega.{arith}
 use mathlib.Core.Path.{_≡_, refl, sym, ap, ap₂, _∙_}
 use mathlib.Core.Bool.{true, false}
-use mathlib.Core.Option.{Option, none, some, Option·getD}
+use mathlib.Core.Option.{Option, none, Option·getD}
 use mathlib.Core.List.{List, [], _∷_}
 use lib.ListN.{drop}
 use lib.Ieee.{Float}

@@ -6,14 +6,13 @@ use mathlib.Core.Path.{_≡_, refl, sym, ap, ap₂, _∙_}
 use mathlib.Core.Option.{Option}
 use mathlib.Core.List.{List, [], _∷_, _++_, map, append-assoc, append-nil}
 use lib.ListN.{length, take, drop, getD}
-use lib.Seq.{drop-cons}
 use lib.Ieee.{Float}
 use Rattle.answer.specs.Answer.{Answer, refused, answered}
 use Rattle.algebra.specs.Matrix.{Vector, Matrix}
 use Rattle.filtering.specs.Filter.{Motion, Sensor, Estimate}
 use Rattle.steps.specs.declared.road.Pair.{Pair}
 use Rattle.steps.specs.Road.{estimateOf}
-use Rattle.layout.specs.Layout.{placed, stride}
+use Rattle.layout.specs.Layout.{placed}
 use Rattle.smoothing.specs.Smoother.{Slot}
 use Rattle.rts_pass.specs.Buffer.{pairAt, slotNumbers, slotsOf, dutyOf}
 use Rattle.rts_pass.specs.Pass.{slotOfTwo}

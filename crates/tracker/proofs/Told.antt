@@ -4,29 +4,26 @@ use native.Mathlib.Omega.{arith}
 use mathlib.Core.Path.{_≡_, refl, sym, ap, ap₂, _∙_}
 use mathlib.Core.Bool.{Bool, true, false, _&&_}
 use mathlib.Core.List.{List, [], _∷_, map, zipWith}
-use lib.Dec.{leb}
 use lib.ListN.{length, replicate}
 use lib.Ieee.{Float}
 use borrow.Author.Tests.{le-leb}
 use Rattle.scalar.specs.Number.{+0}
 use Rattle.answer.specs.declared.Status.{Status}
 use Rattle.answer.specs.declared.Status.the-variants.{Done, Refused}
-use Rattle.answer.specs.Answer.{Answer, refused, answered}
+use Rattle.answer.specs.Answer.{refused}
 use Rattle.answer.specs.Table.{table, padTo}
 use Rattle.answer.proofs.Tables.{length-table, table-ext, map-table}
-use Rattle.algebra.specs.Matrix.{Matrix, at}
+use Rattle.algebra.specs.Matrix.{at}
 use Rattle.algebra.specs.Array.{cut, used}
 use Rattle.matrix.specs.Size.{sized}
-use Rattle.filtering.specs.Filter.{Estimate}
-use Rattle.layout.specs.Layout.{pairLength, stride}
 use Rattle.steps.specs.declared.road.Two.{Two}
 use Rattle.steps.specs.Road.{matrixOf}
-use Rattle.smoothing.specs.Smoother.{Slot, Duty, smooth}
+use Rattle.smoothing.specs.Smoother.{Duty, smooth}
 use Rattle.rts_pass.specs.Buffer.{pairAt, slotFrom, slotAt, slotsOf, dutyOf, roomy, counted, buffered}
 use Rattle.rts_pass.specs.Pass.{smoothable, smoothOf}
 use Rattle.rts_pass.specs.Call.{Call, pairsOf, answerOf}
 use Rattle.rts_pass.proofs.Call.{call-is-smooth}
-use Rattle.tracking.specs.Track.{Tracked, tracked, Smoothed, positions, latest, refusedAt, smoothedBy}
+use Rattle.tracking.specs.Track.{Smoothed, positions, latest, refusedAt}
 use Rattle.tracking.proofs.Latest.{smoothed-refused, smoothed-answered, smoothed-rejected}
 use Rattle.tracker.specs.declared.Positions.{Positions}
 use Rattle.tracker.specs.Tracked.{latestOf, gatheredFrom, rejectedAt, told, smoothedOf}

@@ -8,15 +8,15 @@ use lib.ListN.{length, take}
 use lib.Seq.{take-all}
 use Rattle.filtering.specs.Linear.{trackerSensor, atStart}
 use Rattle.steps.specs.declared.road.Road.{Road}
-use Rattle.steps.specs.Road.{Filter, matrixOf, estimateOf, roadOf, trackerOf}
+use Rattle.steps.specs.Road.{Filter, matrixOf, roadOf, trackerOf}
 use Rattle.smoothing.specs.Smoother.{Slot}
-use Rattle.tracking.specs.Track.{Tracked, rejected, tracked, Smoothed, and-then, slotsFrom, measured, positions, smoothedBy, dutyOf, motion, slots, track}
+use Rattle.tracking.specs.Track.{Tracked, Smoothed, and-then, slotsFrom, measured, positions, smoothedBy, dutyOf, motion, slots, track}
 use Rattle.tracker.specs.declared.Reading.{Reading}
 use Rattle.tracker.specs.declared.Settings.{Settings}
 use Rattle.tracker.specs.declared.Positions.{Positions}
 use Rattle.tracker.specs.declared.Place.{Place}
 use Rattle.tracker.specs.declared.Place.the-variants.{At, Nowhere}
-use Rattle.tracker.specs.Tracked.{settingsOf, readingOf, measuredOf, motionIn, sensorIn, trackedOf, rejectedAt, told, smoothedOf, trackIn}
+use Rattle.tracker.specs.Tracked.{settingsOf, readingOf, measuredOf, slotsIn, trackedOf, rejectedAt, told, smoothedOf, trackIn}
 
 -- u readings of 64: the first c where that is below 64, and else all
 pub first-of : (z : List Reading) (u c : ℕ) → length z ≡ 64 → ((c < 64) × (u ≡ c)) ⊎ ((64 ≤ c) × (u ≡ 64)) → (u ≤ 64) × (take u z ≡ take c z)
@@ -25,7 +25,7 @@ first-of z u c h (inr p) = (omega arith, ap (λ (n : ℕ). take n z) (p .1) ∙ 
 
 -- f is the filter of the settings s; u readings of z are used, which are the first c; l are the slots, and r is where the filter was refused
 module _ (s : Settings) (f : Road) (ef : roadOf f ≡ trackerOf (s .step) (s .process) (s .measurement)) (z : List Reading) (u c : ℕ) (eu : take u z ≡ take c z)
-    (r : Place) (l : List Slot) (er : trackedOf r l ≡ slotsFrom (motionIn f) (sensorIn f) 0 (estimateOf (f .pair)) (map measuredOf (take u z))) where
+    (r : Place) (l : List Slot) (er : trackedOf r l ≡ slotsIn f z u) where
   abbrev S : Tracked (List Slot)
   S = slots (settingsOf s) (map readingOf (take c z))
 

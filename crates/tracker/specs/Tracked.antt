@@ -2,7 +2,7 @@
 use Prim.Native.Nat.{ℕ, _*_}
 use mathlib.Core.Bool.{Bool, true, false}
 use mathlib.Core.Option.{Option, none, some, Option·getD}
-use mathlib.Core.List.{List, [], _∷_, map}
+use mathlib.Core.List.{List, map}
 use lib.ListN.{take, replicate}
 use lib.Ieee.{Float}
 use Rattle.scalar.specs.Number.{+0}
@@ -13,10 +13,10 @@ use Rattle.answer.specs.Table.{table, padTo}
 use Rattle.algebra.specs.Matrix.{Vector, Matrix, at}
 use Rattle.filtering.specs.Filter.{Motion, Sensor, Estimate}
 use Rattle.steps.specs.declared.road.Road.{Road}
-use Rattle.steps.specs.Road.{motionOf, sensorOf}
+use Rattle.steps.specs.Road.{motionOf, sensorOf, estimateOf}
 use Rattle.smoothing.specs.Smoother.{Slot}
 use Rattle.tracking.specs.Track as Track
-use Rattle.tracking.specs.Track.{Tracked, rejected, tracked, Smoothed, measured, positions, latest, smoothedBy}
+use Rattle.tracking.specs.Track.{Tracked, rejected, tracked, Smoothed, slotsFrom, measured, positions, latest, smoothedBy}
 use Rattle.tracker.specs.declared.Reading.{Reading}
 use Rattle.tracker.specs.declared.Settings.{Settings}
 use Rattle.tracker.specs.declared.Positions.{Positions}
@@ -44,6 +44,10 @@ motionIn f = motionOf (f .a) (f .b0) (f .b1) (f .q)
 
 abbrev pub sensorIn : Road → Sensor Matrix
 sensorIn f = sensorOf (f .h0) (f .h1) (f .r)
+
+-- the slots of the first c readings of z, by the filter f from its own estimate on
+abbrev pub slotsIn : Road → List Reading → ℕ → Tracked (List Slot)
+slotsIn f z c = slotsFrom (motionIn f) (sensorIn f) 0 (estimateOf (f .pair)) (map measuredOf (take c z))
 
 -- ---- what is told
 

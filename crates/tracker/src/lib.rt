@@ -2,14 +2,13 @@
 // A slot is twelve numbers, as rts_pass reads it: the state and its covariance by rows, then the predicted pair.
 ghost use mathlib.Core.Path.{_≡_};
 ghost use Prim.Native.Nat.{_+_, _*_, _≤_};
-ghost use lib.ListN.{length, take};
-ghost use mathlib.Core.List.{map};
+ghost use lib.ListN.{length};
 ghost use Rattle.layout.specs.Layout.{placed};
 ghost use Rattle.steps.specs.Road.{matrixOf, estimateOf};
 ghost use Rattle.rts_pass.specs.Buffer.{slotNumbers, slotsOf};
 ghost use Rattle.rts_pass.specs.Pass.{slotOfTwo};
-ghost use Rattle.tracking.specs.Track.{moved as movedOf, corrected as correctedOf, slotsFrom, track as trackOf};
-ghost use Rattle.tracker.specs.Tracked.{motionIn, sensorIn, readingOf, measuredOf, answerOf, trackedOf, latestOf, gatheredFrom, smoothedOf, rejectedAt, settingsOf, trackIn};
+ghost use Rattle.tracking.specs.Track.{moved as movedOf, corrected as correctedOf};
+ghost use Rattle.tracker.specs.Tracked.{measuredOf, motionIn, sensorIn, slotsIn, answerOf, trackedOf, latestOf, gatheredFrom, rejectedAt, smoothedOf, trackIn};
 use answer::Status;
 use matrix::ScalarResult;
 use scalar::ControlScalar;
@@ -114,9 +113,7 @@ fn put_slot(slots: &mut [f64], k: usize, e: Pair, y: Pair)
 // A slot for each of the first count readings; or the first reading that is refused.
 fn filter(f: Road, readings: [Reading; 64], count: usize, slots: &mut [f64]) -> Place
     requires { ⌜ (count ≤ 64) × (count * 12 ≤ length (now slots)) ⌝ }
-    ensures { λ r. ⌜
-        trackedOf r (slotsOf 2 (now (slots .exit)) count)
-        ≡ slotsFrom (motionIn f) (sensorIn f) 0 (estimateOf (f .pair)) (map measuredOf (take count readings)) ⌝ }
+    ensures { λ r. ⌜ trackedOf r (slotsOf 2 (now (slots .exit)) count) ≡ slotsIn f readings count ⌝ }
 {
     let mut e = f.pair;
     let mut k = 0;
@@ -225,7 +222,11 @@ pub fn track(settings: Settings, readings: [Reading; 64], count: usize) -> Posit
 {
     let f = road::position_velocity(settings.step, settings.process, settings.measurement);
     let a = f.a;
-    let used = if count < 64 { count } else { 64 };
+    let used = if count < ControlScalar::MAX_SLOTS {
+        count
+    } else {
+        ControlScalar::MAX_SLOTS
+    };
     let mut slots = [0.0; 768];
     let place = filter(f, readings, used, &mut slots[..]);
     match place {

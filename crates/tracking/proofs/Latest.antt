@@ -16,7 +16,6 @@ use Rattle.smoothing.specs.Backward.{BeforeLast, this, later}
 use Rattle.smoothing.specs.Demand3.{Rejected}
 use Rattle.smoothing.specs.Smoother.{Slot, Duty, smooth}
 use Rattle.smoothing.proofs.Demand3.{demand3}
-use Rattle.smoothing.proofs.Backward.{reaches}
 use Rattle.tracking.specs.Track.{Tracked, rejected, tracked, rejects, orHere, latest, refusedAt, smoothedBy}
 use Rattle.tracking.specs.Laws.{Latest}
 

@@ -1,5 +1,5 @@
 -- The laws of tracking: the filter's way, then the smoother's. Assumes nothing.
-use Prim.Native.Nat.{ℕ, zero, suc, _+_, _≤_, _<_}
+use Prim.Native.Nat.{ℕ, suc, _+_, _≤_, _<_}
 use native.Mathlib.Omega.{arith}
 use mathlib.Core.Path.{_≡_, refl, sym, ap, _∙_, subst}
 use mathlib.Core.Option.{Option}
@@ -10,7 +10,7 @@ use Rattle.answer.specs.Answer.{Answer, refused, answered}
 use Rattle.algebra.specs.Matrix.{Vector, Matrix}
 use Rattle.filtering.specs.Filter.{Motion, Sensor, Estimate}
 use Rattle.filtering.specs.Linear.{trackerMotion, trackerSensor, atStart}
-use Rattle.smoothing.specs.Smoother.{Slot, Duty, smooth}
+use Rattle.smoothing.specs.Smoother.{Slot, smooth}
 use Rattle.smoothing.proofs.Backward.{reaches}
 use Rattle.tracking.specs.Track.{Settings, Smoothed, Tracked, rejected, tracked, and-then, at-reading, filter, slotOf, slotsFrom, refusedAt, smoothedBy, dutyOf, measured, positions, motion, slots, track}
 use Rattle.tracking.specs.Laws.{Latest, Tracks}

@@ -2,7 +2,7 @@
 -- With this EPSILON no sheet is known to be refused with 3: the refusals here have a step and noises of 0, which no sheet has.
 use mathlib.Core.Path.{_≡_}
 use mathlib.Core.Bool.{false}
-use mathlib.Core.Option.{Option, none, some}
+use mathlib.Core.Option.{none, some}
 use mathlib.Core.List.{List, [], _∷_, map}
 use lib.IntN.{pos, negsuc}
 use lib.Ieee.{Float, fin, binary64, toBits}
@@ -11,7 +11,7 @@ use Rattle.algebra.specs.Values.{n0, n1, n2}
 use Rattle.filtering.specs.Filter.{estimate}
 use Rattle.filtering.specs.Cases.{n32, n300, n400, n4288}
 use Rattle.smoothing.specs.Smoother.{Slot, Duty}
-use Rattle.tracking.specs.Track.{Settings, Smoothed, Tracked, rejected, tracked, latest, positions, smoothedBy, track}
+use Rattle.tracking.specs.Track.{Settings, Smoothed, rejected, tracked, latest, positions, smoothedBy, track}
 
 abbrev settings : Float → Float → Float → Settings
 settings t q r = record { step = t; process = q; measurement = r }

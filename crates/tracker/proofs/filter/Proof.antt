@@ -1,5 +1,4 @@
 -- `filter` meets its contract: by the loop's record, `Storing`.
-use mathlib.Core.Path.{_≡_, sym, ap, _∙_}
 use Prim.Native.Nat.{_-_}
 use native.Mathlib.Omega.{arith}
 use borrow.Author.Needs.{needs}

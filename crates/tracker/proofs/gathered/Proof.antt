@@ -3,7 +3,6 @@ use mathlib.Core.Path.{refl}
 use Prim.Native.Nat.{ℕ, _+_, _*_, _-_, _≤_, _<_}
 use native.Mathlib.Nat.{mul-le-mul-right, le-trans, le-of-lt}
 use native.Mathlib.Omega.{arith}
-use borrow.Author.Needs.{needs}
 use Rattle.scalar.specs.Number.{+0}
 use Rattle.answer.proofs.Tables.{Filling, filling-none, filling-more, filling-all}
 use Rattle.algebra.specs.Matrix.{at}
