@@ -1,0 +1,3 @@
+pub mod Metres
+pub mod Passing
+pub mod Buffer
