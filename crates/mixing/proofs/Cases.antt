@@ -8,6 +8,14 @@ unfolding computing
 cases = record {
   mixing = refl;
   mixing-degenerate = refl;
+  mixing-at-limit = refl;
+  mixing-above-limit = refl;
+  mixing-nan = refl;
+  mixing-overflow = refl;
+  sum-at-limit = refl;
+  sum-nan = refl;
+  third = refl;
+  one-model = refl;
   mixing-fused = refl;
 }
 

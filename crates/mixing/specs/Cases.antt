@@ -3,11 +3,11 @@ use mathlib.Core.Path.{_≡_}
 use mathlib.Core.Bool.{true, false}
 use mathlib.Core.List.{[], _∷_}
 use lib.IntN.{pos, negsuc}
-use lib.Ieee.{Float, fin}
+use lib.Ieee.{Float, nan, inf, fin}
 use Rattle.algebra.specs.Matrix.{Vector, oneByOne, twoByTwo}
-use Rattle.algebra.specs.Values.{n0, n1, n2, n3, n4, ½, ¼, ¾}
+use Rattle.algebra.specs.Values.{−0, n0, n1, n2, n3, n4, ½, ¼, ¾}
 use Rattle.filtering.specs.Filter.{Estimate, estimate}
-use Rattle.mixing.specs.Mixing.{Bank, mixEstimates, updateProbabilities, fusedEstimate}
+use Rattle.mixing.specs.Mixing.{Bank, uniform, mixEstimates, updateProbabilities, fusedEstimate}
 
 abbrev bank : Estimate → Estimate → Vector → Vector → Bank
 bank e f L μ = record { estimates = e ∷ f ∷ []; likelihoods = L; probabilities = μ }
@@ -16,12 +16,41 @@ bank e f L μ = record { estimates = e ∷ f ∷ []; likelihoods = L; probabilit
 abbrev pair : Float → Float → Estimate
 pair x p = estimate (x ∷ []) (oneByOne p)
 
+-- one model of one state
+abbrev single : Estimate → Float → Float → Bank
+single e L μ = record { estimates = e ∷ []; likelihoods = L ∷ []; probabilities = μ ∷ [] }
+
+-- 1e200, whose square overflows; EPSILON, and the number above it
+abbrev huge : Float
+huge = fin false 2941796710330669 (pos 613)
+
+abbrev ε : Float
+ε = fin false 1 (negsuc 51)
+
+abbrev ε⁺ : Float
+ε⁺ = fin false 4503599627370497 (negsuc 103)
+
 pub record Cases : Type 0 where
   -- mixing: the first model is never entered, and its weights are zero
   pub mixing : mixEstimates 1 2 (twoByTwo n0 n1 n0 n1) (bank (pair n2 n1) (pair n4 n1) (n1 ∷ n1 ∷ []) (½ ∷ ½ ∷ []))
       ≡ bank (pair n0 n0) (pair n3 n2) (n1 ∷ n1 ∷ []) (n0 ∷ n1 ∷ [])
   pub mixing-degenerate : updateProbabilities 2 (bank (pair n2 n1) (pair n4 n1) (n0 ∷ n0 ∷ []) (n1 ∷ n0 ∷ []))
       ≡ bank (pair n2 n1) (pair n4 n1) (n0 ∷ n0 ∷ []) (½ ∷ ½ ∷ [])
+  -- a predicted probability of EPSILON, or NaN, is not above EPSILON; the next number is
+  pub mixing-at-limit : mixEstimates 1 1 (oneByOne ε) (single (pair n2 n1) n1 n1) ≡ single (pair n0 n0) n1 ε
+  pub mixing-above-limit : mixEstimates 1 1 (oneByOne ε⁺) (single (pair n2 n1) n1 n1) ≡ single (pair n2 n1) n1 ε⁺
+  pub mixing-nan : mixEstimates 1 1 (oneByOne nan) (single (pair n2 n1) n1 n1) ≡ single (pair n0 n0) n1 nan
+  -- a model that is never entered: its state mixes to zero, but the spread of 1e200 is infinite, and infinity × 0 is NaN
+  pub mixing-overflow : mixEstimates 1 1 (oneByOne n0) (single (pair huge n1) n1 n1) ≡ single (pair n0 nan) n1 n0
+  -- a sum of EPSILON, or NaN, is not below EPSILON
+  pub sum-at-limit : updateProbabilities 2 (bank (pair n2 n1) (pair n4 n1) (ε ∷ n0 ∷ []) (n1 ∷ n0 ∷ []))
+      ≡ bank (pair n2 n1) (pair n4 n1) (ε ∷ n0 ∷ []) (n1 ∷ n0 ∷ [])
+  pub sum-nan : updateProbabilities 2 (bank (pair n2 n1) (pair n4 n1) (nan ∷ n0 ∷ []) (n1 ∷ n0 ∷ []))
+      ≡ bank (pair n2 n1) (pair n4 n1) (nan ∷ n0 ∷ []) (nan ∷ nan ∷ [])
+  -- one division
+  pub third : uniform 3 ≡ fin false 6004799503160661 (negsuc 53) ∷ fin false 6004799503160661 (negsuc 53) ∷ fin false 6004799503160661 (negsuc 53) ∷ []
+  -- one model of weight 1 keeps its state, but for −0: a sum from +0 has none
+  pub one-model : fusedEstimate 3 1 (single (estimate (n3 ∷ −0 ∷ inf true ∷ []) []) n1 n1) ≡ n3 ∷ n0 ∷ inf true ∷ []
   pub mixing-fused : fusedEstimate 1 2 (bank (pair n2 n1) (pair n4 n1) (n1 ∷ n1 ∷ []) (½ ∷ ½ ∷ [])) ≡ n3 ∷ []
 
 -- ---- the Rust's numbers
