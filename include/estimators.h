@@ -1,5 +1,6 @@
 /*
- * The verified estimators for C: matrices, the linear Kalman filter and the Rauch-Tung-Striebel smoother.
+ * The verified estimators for C: matrices, the linear Kalman filter, model mixing and the
+ * Rauch-Tung-Striebel smoother.
  * Link libestimators.a, which `rt staticlib estimators` writes; it needs no other library.
  *
  * Numbers are IEEE 754 doubles and may hold any bits. A matrix is its cells by rows, used sizes only: R x C is
@@ -148,6 +149,37 @@ uint8_t kalman_state(size_t n, size_t m, size_t i, const double *filter, size_t 
                      double *out, size_t out_len);
 uint8_t kalman_covariance(size_t n, size_t m, size_t i, const double *filter, size_t filter_len,
                           double *out, size_t out_len);
+
+/* ---- model mixing (imm.rs): k models of n states, m measurements
+ *
+ * A bank is one slice: for each model its transition a (n x n), state x (n), covariance p (n x n), process noise q
+ * (n x n) and likelihood (1); then the transition (k x k; row i, column j: the probability of model j after model i),
+ * the measurement matrix c (m x n), the measurement noise r (m x m) and the probabilities mu (k), in this order.
+ * ESTIMATORS_MODEL gives the length of a model, ESTIMATORS_BANK that of a bank. Each function is refused with 1: a size
+ * outside 1 to 4, or a slice of another length. A refusal leaves the bank unchanged.
+ */
+#define ESTIMATORS_MODEL(n) (2 * (n) * (n) + ESTIMATORS_PAIR(n) + 1)
+#define ESTIMATORS_BANK(n, m, k) \
+    ((k) * ESTIMATORS_MODEL(n) + (k) * (k) + (m) * (n) + (m) * (m) + (k))
+
+/* The bank of k models, one after another, each with the probability 1 / k: models is k * ESTIMATORS_MODEL(n) numbers,
+ * transition is k x k, c is m x n, r is m x m. */
+uint8_t imm_new(size_t n, size_t m, size_t k, const double *models, size_t models_len,
+                const double *transition, size_t transition_len, const double *c, size_t c_len,
+                const double *r, size_t r_len, double *bank, size_t bank_len);
+/* Every model's state and covariance mixed from those of all, by the probabilities of having come from each; mu becomes
+ * the predicted probabilities. Where a predicted probability is not above EPSILON its model's weights are zero: finite
+ * states mix to zero, and a covariance to zero, or to NaN where a square of the difference of states overflows. */
+uint8_t imm_mix_estimates(size_t n, size_t m, size_t k, double *bank, size_t bank_len);
+/* mu becomes each probability times its model's likelihood, as a part of their sum; 1 / k each where the sum is below
+ * EPSILON. */
+uint8_t imm_update_probabilities(size_t n, size_t m, size_t k, double *bank, size_t bank_len);
+/* The states by their probabilities, summed, into out (n). */
+uint8_t imm_fused_estimate(size_t n, size_t m, size_t k, const double *bank, size_t bank_len,
+                           double *out, size_t out_len);
+/* The probability of a model, from 0, into *out. Refused with 1 too: a model that is not below k. */
+uint8_t imm_model_probability(size_t n, size_t m, size_t k, const double *bank, size_t bank_len, size_t model,
+                              double *out);
 
 /* ---- the smoother (rts_smoother.rs): state size n, room for slots, of which the first count are stored
  *

@@ -2,6 +2,7 @@
 // an answer. A slice is a pointer and a length in C; include/estimators.h says what each holds. The functions forward to crates
 // of calls on slices, whose contracts they have.
 pub mod filters;
+pub mod imm;
 pub mod matrices;
 pub mod numbers;
 pub mod smoothers;

@@ -88,3 +88,14 @@ stride n = 2 * n + 2 * (n * n)
 -- a filter of n states, m measurements and i inputs: a, b, h, q and r, then the state x and its covariance p
 abbrev pub filterParts : ℕ → ℕ → ℕ → Parts
 filterParts n m i = (n, n) ∷ (n, i) ∷ (m, n) ∷ (n, n) ∷ (m, m) ∷ pairParts n
+
+-- a model of n states: a, the state x and its covariance p, q, and the likelihood
+abbrev pub modelParts : ℕ → Parts
+modelParts n = (n, n) ∷ (n, 1) ∷ (n, n) ∷ (n, n) ∷ (1, 1) ∷ []
+
+abbrev pub modelLength : ℕ → ℕ
+modelLength n = n * n + pairLength n + n * n + 1
+
+-- a bank of k models of n states and m measurements: the models, a row for each, the transition, c, r and the probabilities
+abbrev pub bankParts : ℕ → ℕ → ℕ → Parts
+bankParts n m k = (k, modelLength n) ∷ (k, k) ∷ (m, n) ∷ (m, m) ∷ (k, 1) ∷ []

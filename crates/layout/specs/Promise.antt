@@ -5,12 +5,14 @@ use Prim.Native.Nat.{ℕ, _+_, _*_, _≤_, _<_}
 use lib.ListN.{length}
 use lib.Ieee.{Float}
 use Rattle.algebra.specs.Matrix.{mat}
-use Rattle.layout.specs.Layout.{joined, placed, Parts, partRows, partColumns, partSize, total, offset, partAt, pairParts, slotParts, filterParts, pairLength, stride}
+use Rattle.layout.specs.Layout.{joined, placed, Parts, partRows, partColumns, partSize, total, offset, partAt, pairParts, slotParts, filterParts, pairLength, stride, modelParts, modelLength, bankParts}
 
 pub record Layouts : Type 0 where
   pub pair : (n : ℕ) → total (pairParts n) ≡ pairLength n
   pub slot : (n : ℕ) → total (slotParts n) ≡ stride n
   pub filter : (n m i : ℕ) → total (filterParts n m i) ≡ n * n + n * i + m * n + n * n + m * m + pairLength n
+  pub model : (n : ℕ) → total (modelParts n) ≡ modelLength n
+  pub bank : (n m k : ℕ) → total (bankParts n m k) ≡ k * modelLength n + k * k + m * n + m * m + k
   -- a slot's second pair begins after the first, and a filter ends with its pair
   pub second : (n : ℕ) → offset (slotParts n) 2 ≡ pairLength n
   pub last : (n m i : ℕ) → offset (filterParts n m i) 5 + pairLength n ≡ total (filterParts n m i)

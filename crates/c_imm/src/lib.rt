@@ -1,0 +1,259 @@
+// src/estimator/imm.rs on a slice that the caller lends: a bank of k models of n states and m measurements is, for each model, a,
+// x, p, q and its likelihood, then the transition, c, r and the probabilities mu, by rows, one after another. A step reads what it
+// needs as rows, once, and writes it back, once; the other calls copy. Refused with 1: a size, or a slice of another length.
+ghost use mathlib.Core.Path.{_≡_};
+ghost use mathlib.Core.Bool.{true};
+ghost use mathlib.Core.List.{[]};
+ghost use Prim.Native.Nat.{_+_, _*_, _≤_};
+ghost use lib.ListN.{length, replicate};
+ghost use Rattle.scalar.specs.Number.{+0};
+ghost use Rattle.answer.specs.Told.{given};
+ghost use Rattle.answer.specs.Table.{table, padTo};
+ghost use Rattle.algebra.specs.Matrix.{at};
+ghost use Rattle.algebra.specs.Array.{padRow, pad};
+ghost use Rattle.matrix.specs.Size.{count};
+ghost use Rattle.layout.specs.Layout.{vectorIn, matrixIn, modelLength};
+ghost use Rattle.steps.specs.Step.{wellSized};
+ghost use Rattle.imm_steps.specs.Bank.{bankRows};
+ghost use Rattle.c_imm.specs.Bank.{modelPlace, probabilitiesPlace, isBank, isParts, withEstimates};
+ghost use Rattle.c_imm.specs.Bank.{mixIn, probabilitiesIn, fusedIn, probabilityIn, newIn};
+use matrix::Size;
+use matrix::both;
+use matrix::number;
+use matrix::size_of;
+
+// ---- sizes and places
+
+// How many numbers a model of n states takes.
+fn model_length(n: usize) -> usize
+    requires { ⌜ n ≤ 4 ⌝ }
+    ensures { λ l. ⌜ (l ≡ modelLength n) × (l ≤ 53) ⌝ }
+{
+    n * n + (n + n * n) + n * n + 1
+}
+
+// Where part x of model i begins.
+fn state_place(n: usize, i: usize) -> usize
+    requires { ⌜ (n ≤ 4) × (i ≤ 4) ⌝ }
+    ensures { λ l. ⌜ (l ≡ modelPlace n i 1) × (l ≤ 228) ⌝ }
+{
+    i * model_length(n) + n * n
+}
+
+// Where the probabilities begin.
+fn probabilities_place(n: usize, m: usize, k: usize) -> usize
+    requires { ⌜ wellSized n m k ≡ true ⌝ }
+    ensures { λ l. ⌜ (l ≡ probabilitiesPlace n m k) × (l ≤ 260) ⌝ }
+{
+    k * model_length(n) + k * k + m * n + m * m
+}
+
+// A slice of len numbers is just a bank.
+fn is_bank(n: usize, m: usize, k: usize, len: usize) -> bool
+    ensures { λ t. ⌜ t ≡ isBank n m k len ⌝ }
+{
+    if steps::is_well_sized(n, m, k) {
+        len == probabilities_place(n, m, k) + k
+    } else {
+        false
+    }
+}
+
+// ---- rows out of a slice, and back
+
+fn states_at(bank: &[f64], n: Size, k: Size) -> [[f64; 4]; 4]
+    ensures { λ x. ⌜ x ≡ padTo 4 (replicate 4 +0) (table (count k) (λ i. padRow (vectorIn (count n) (now (bank .entry)) (modelPlace (count n) i 1)))) ⌝ }
+{
+    let models = number(k);
+    let states = number(n);
+    let mut x = [[0.0; 4]; 4];
+    for i in 0..models {
+        x[i] = layout::vector_at(bank, state_place(states, i), n);
+    }
+    x
+}
+
+fn covariances_at(bank: &[f64], n: Size, k: Size) -> [[[f64; 4]; 4]; 4]
+    ensures { λ p. ⌜ p ≡ padTo 4 (replicate 4 (replicate 4 +0)) (table (count k) (λ i. pad (matrixIn (count n) (count n) (now (bank .entry)) (modelPlace (count n) i 1 + count n)))) ⌝ }
+{
+    let models = number(k);
+    let states = number(n);
+    let mut p = [[[0.0; 4]; 4]; 4];
+    for i in 0..models {
+        p[i] = layout::matrix_at(bank, state_place(states, i) + states, n, n);
+    }
+    p
+}
+
+fn likelihoods_at(bank: &[f64], n: Size, k: Size) -> [f64; 4]
+    ensures { λ l. ⌜ l ≡ padTo 4 +0 (table (count k) (λ i. at (padRow (vectorIn 1 (now (bank .entry)) (modelPlace (count n) i 4))) 0)) ⌝ }
+{
+    let models = number(k);
+    let states = number(n);
+    let mut l = [0.0; 4];
+    for i in 0..models {
+        let place = state_place(states, i) + (states + states * states) + states * states;
+        let one = layout::vector_at(bank, place, Size::One);
+        l[i] = one[0];
+    }
+    l
+}
+
+// The estimates x and p of k models of n states, each in its place.
+fn put_estimates<'a>(
+    bank: &mut [f64],
+    x: &'a [[f64; 4]; 4],
+    p: &'a [[[f64; 4]; 4]; 4],
+    n: Size,
+    k: Size,
+)
+    requires { ⌜ count k * modelLength (count n) ≤ length (now bank) ⌝ }
+    ensures { λ u. ⌜ now (bank .exit) ≡ withEstimates (count n) (count k) (now (bank .entry)) (bankRows n k (now (x .entry)) (now (p .entry)) [] []) ⌝ }
+{
+    let models = number(k);
+    let states = number(n);
+    for i in 0..models {
+        layout::put_pair(bank, state_place(states, i), x[i], &p[i], n);
+    }
+}
+
+// ---- the steps
+
+// Every model's state and covariance mixed from those of all; mu becomes the predicted probabilities.
+pub fn imm_mix_estimates(n: usize, m: usize, k: usize, bank: &mut [f64]) -> u8
+    ensures { λ t. ⌜ (t, now (bank .exit)) ≡ mixIn n m k (now (bank .entry)) ⌝ }
+{
+    if is_bank(n, m, k, bank.len()) {
+        let from = probabilities_place(n, m, k);
+        let sn = size_of(n);
+        let sk = size_of(k);
+        let t = layout::matrix_at(bank, k * model_length(n), sk, sk);
+        let mut x = states_at(bank, sn, sk);
+        let mut p = covariances_at(bank, sn, sk);
+        let mut mu = layout::vector_at(bank, from, sk);
+        imm_steps::mix(&t, sn, sk, &mut x, &mut p, &mut mu);
+        put_estimates(bank, &x, &p, sn, sk);
+        layout::put_vector(bank, from, mu, sk);
+        0
+    } else {
+        1
+    }
+}
+
+// mu becomes each probability times its likelihood, as a part of their sum; 1 / k each where the sum is below EPSILON.
+pub fn imm_update_probabilities(n: usize, m: usize, k: usize, bank: &mut [f64]) -> u8
+    ensures { λ t. ⌜ (t, now (bank .exit)) ≡ probabilitiesIn n m k (now (bank .entry)) ⌝ }
+{
+    if is_bank(n, m, k, bank.len()) {
+        let from = probabilities_place(n, m, k);
+        let sk = size_of(k);
+        let l = likelihoods_at(bank, size_of(n), sk);
+        let mut mu = layout::vector_at(bank, from, sk);
+        imm_steps::update_probabilities(l, sk, &mut mu);
+        layout::put_vector(bank, from, mu, sk);
+        0
+    } else {
+        1
+    }
+}
+
+// ---- what is asked of a bank
+
+// The states by their probabilities, n numbers.
+pub fn imm_fused_estimate(n: usize, m: usize, k: usize, bank: &[f64], out: &mut [f64]) -> u8
+    ensures { λ t. ⌜ (t, now (out .exit)) ≡ given (now (out .entry)) (fusedIn n m k (now (bank .entry)) (length (now (out .entry)))) ⌝ }
+{
+    if is_bank(n, m, k, bank.len()) {
+        if out.len() == n {
+            let sn = size_of(n);
+            let sk = size_of(k);
+            let x = states_at(bank, sn, sk);
+            let mu = layout::vector_at(bank, probabilities_place(n, m, k), sk);
+            let fused = imm_steps::weighted(&x, mu, sn, sk);
+            layout::put_vector(out, 0, fused, sn);
+            return 0;
+        }
+    }
+    1
+}
+
+// The probability of a model, from 0. Refused with 1 too: there is no such model.
+pub fn imm_model_probability(
+    n: usize,
+    m: usize,
+    k: usize,
+    bank: &[f64],
+    model: usize,
+    out: &mut f64,
+) -> u8
+    ensures { λ t. ⌜ (t, now (out .exit)) ≡ given (now (out .entry)) (probabilityIn n m k (now (bank .entry)) model) ⌝ }
+{
+    if is_bank(n, m, k, bank.len()) {
+        if model < k {
+            *out = bank[probabilities_place(n, m, k) + model];
+            return 0;
+        }
+    }
+    1
+}
+
+// ---- a bank of its parts
+
+// Slices of these lengths are just the parts of a bank of len numbers.
+fn is_parts(
+    n: usize,
+    m: usize,
+    k: usize,
+    len: usize,
+    models: usize,
+    transition: usize,
+    c: usize,
+    r: usize,
+) -> bool
+    ensures { λ t. ⌜ t ≡ isParts n m k len models transition c r ⌝ }
+{
+    if is_bank(n, m, k, len) {
+        let own = both(models == k * model_length(n), transition == k * k);
+        both(own, both(c == m * n, r == m * m))
+    } else {
+        false
+    }
+}
+
+// The bank of the models, one after another, the transition, c and r, each by rows; each probability is 1 / k.
+pub fn imm_new(
+    n: usize,
+    m: usize,
+    k: usize,
+    models: &[f64],
+    transition: &[f64],
+    c: &[f64],
+    r: &[f64],
+    bank: &mut [f64],
+) -> u8
+    ensures { λ t. ⌜ (t, now (bank .exit)) ≡ given (now (bank .entry)) (newIn n m k (length (now (bank .entry))) (now (models .entry)) (now (transition .entry)) (now (c .entry)) (now (r .entry))) ⌝ }
+{
+    if is_parts(
+        n,
+        m,
+        k,
+        bank.len(),
+        models.len(),
+        transition.len(),
+        c.len(),
+        r.len(),
+    ) {
+        let to_c = models.len() + transition.len();
+        let to_r = to_c + c.len();
+        let to_mu = to_r + r.len();
+        let sk = size_of(k);
+        layout::put_slice(bank, 0, models);
+        layout::put_slice(bank, models.len(), transition);
+        layout::put_slice(bank, to_c, c);
+        layout::put_slice(bank, to_r, r);
+        layout::put_vector(bank, to_mu, imm_steps::uniform(sk), sk);
+        0
+    } else {
+        1
+    }
+}
