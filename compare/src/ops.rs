@@ -6,10 +6,11 @@ pub enum Family {
     Scalar,
     Matrix,
     Kalman,
+    Imm,
     RtsSmoother,
 }
 
-use Family::{Kalman, Matrix, RtsSmoother, Scalar};
+use Family::{Imm, Kalman, Matrix, RtsSmoother, Scalar};
 
 /// Every call, in the order of PROTOCOL.md.
 pub const OPS: &[(&str, Family)] = &[
@@ -53,6 +54,11 @@ pub const OPS: &[(&str, Family)] = &[
     ("kf_reset", Kalman),
     ("kf_posvel", Kalman),
     ("kf_seq", Kalman),
+    ("imm_new", Imm),
+    ("imm_mix", Imm),
+    ("imm_probs", Imm),
+    ("imm_fused", Imm),
+    ("imm_prob", Imm),
     ("rts_store", RtsSmoother),
     ("rts_get", RtsSmoother),
     ("rts_smooth", RtsSmoother),
@@ -72,7 +78,7 @@ pub fn refusals(op: &str) -> &'static [u8] {
 }
 
 /// Calls of PROTOCOL.md that no driver answers: modules that are not ported.
-const NOT_PORTED: &[&str] = &["if_", "sq_", "imm_", "fis_"];
+const NOT_PORTED: &[&str] = &["if_", "sq_", "imm_update_all", "fis_"];
 
 /// The module of the call `op`, or what both drivers say instead.
 pub fn family(op: &[u8]) -> Result<Family, &'static str> {

@@ -242,6 +242,7 @@ macro_rules! driver {
                 Family::Scalar => scalar::call(op, words, answer),
                 Family::Matrix => matrix::call(op, words, answer),
                 Family::Kalman => kalman::call(op, words, answer),
+                Family::Imm => imm::call(op, words, answer),
                 Family::RtsSmoother => rts_smoother::call(op, words, answer),
             }
         }

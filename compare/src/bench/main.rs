@@ -4,6 +4,7 @@
 
 #[path = "../port_side/entries.rs"]
 mod entries;
+mod imm;
 mod library;
 mod port;
 mod rust;
@@ -207,6 +208,8 @@ fn main() {
     matrices::<4>();
     filter::<2, 1, 1>();
     filter::<4, 2, 2>();
+    imm::mixing::<2>();
+    imm::mixing::<4>();
     smooth::<2>("smooth", 64);
     smooth::<4>("smooth", 64);
     for count in [8, 16, 32, 64] {

@@ -2,6 +2,7 @@
 //! refusal at each place, smoothers of several sizes and rooms. The list is the same on every run.
 
 use crate::draw::{Draw, Style, LIMIT, SPECIAL};
+use crate::imm;
 use crate::kalman::{good, refusing, sequence, styled as styled_filter, Model};
 use crate::matrix::styled;
 use crate::rts_smoother::{good_slots, predict, with_slots};
@@ -328,6 +329,7 @@ pub fn calls() -> Vec<Call> {
     calls.extend(inversions(&mut draw));
     calls.extend(factors(&mut draw));
     calls.extend(filters(&mut draw));
+    calls.extend(imm::edges(&mut draw));
     for (n, rooms) in [(1, vec![1, 2, 3, 8, 64]), (2, vec![1, 2, 3, 8]), (3, vec![1, 3]), (4, vec![2, 3])] {
         for room in rooms {
             calls.extend(smoothers(&mut draw, n, room));

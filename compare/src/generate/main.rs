@@ -4,6 +4,7 @@
 
 mod draw;
 mod edge;
+mod imm;
 mod kalman;
 mod matrix;
 mod rts_smoother;
@@ -17,8 +18,13 @@ use std::io::{self, BufWriter, Write};
 use text::Call;
 
 /// How many of 100 calls each module gets.
-const SHARES: [(Family, u64); 4] =
-    [(Family::Scalar, 8), (Family::Matrix, 42), (Family::Kalman, 33), (Family::RtsSmoother, 17)];
+const SHARES: [(Family, u64); 5] = [
+    (Family::Scalar, 8),
+    (Family::Matrix, 40),
+    (Family::Kalman, 28),
+    (Family::Imm, 9),
+    (Family::RtsSmoother, 15),
+];
 
 /// Call k of a seed. A short one keeps off the smoother's room of 64 slots.
 fn call(seed: u64, k: u64, short: bool) -> Call {
@@ -27,6 +33,7 @@ fn call(seed: u64, k: u64, short: bool) -> Call {
         Family::Scalar => scalar::call(&mut draw),
         Family::Matrix => matrix::call(&mut draw),
         Family::Kalman => kalman::call(&mut draw),
+        Family::Imm => imm::call(&mut draw),
         Family::RtsSmoother => rts_smoother::call(&mut draw, short),
     }
 }

@@ -1,6 +1,7 @@
 //! The driver over the port, by the C functions of estimators.h and nothing else.
 
 mod entries;
+mod imm;
 mod kalman;
 mod lent;
 mod matrix;

@@ -16,13 +16,15 @@ struct Tally {
     faults: Vec<String>,
 }
 
-/// What a size may not be, by its name. The table has 3 slots of room, and asks in row 1 of 2 and column 2 of 3.
+/// What a size may not be, by its name. The table has 3 slots of room, and asks in row 1 of 2, column 2 of 3 and model
+/// 2 of 3.
 fn wrong_sizes(name: &str) -> &'static [usize] {
     match name {
         "room" => &[0, 65],
         "count" => &[4, usize::MAX],
         "row" => &[2, usize::MAX],
         "column" => &[3, usize::MAX],
+        "model" => &[3, usize::MAX],
         _ => &[0, 5],
     }
 }

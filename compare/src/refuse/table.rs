@@ -59,6 +59,14 @@ fn filter(n: usize, m: usize, i: usize) -> usize {
     2 * n * n + n * i + m * n + m * m + pair(n)
 }
 
+fn models(n: usize, k: usize) -> usize {
+    k * (2 * n * n + pair(n) + 1)
+}
+
+fn bank(n: usize, m: usize, k: usize) -> usize {
+    models(n, k) + k * k + m * n + m * m + k
+}
+
 #[rustfmt::skip]
 pub fn rows() -> Vec<Row> {
     vec![
@@ -97,6 +105,11 @@ pub fn rows() -> Vec<Row> {
         row!(kalman_reset(n = 2, m = 3, i = 1) (n) (m) (i) [filter(n, m, i)] [n] [n * n]),
         row!(kalman_state(n = 2, m = 3, i = 1) (n) (m) (i) [filter(n, m, i)] [n]),
         row!(kalman_covariance(n = 2, m = 3, i = 1) (n) (m) (i) [filter(n, m, i)] [n * n]),
+        row!(imm_new(n = 2, m = 1, k = 3) (n) (m) (k) [models(n, k)] [k * k] [m * n] [m * m] [bank(n, m, k)]),
+        row!(imm_mix_estimates(n = 2, m = 1, k = 3) (n) (m) (k) [bank(n, m, k)]),
+        row!(imm_update_probabilities(n = 2, m = 1, k = 3) (n) (m) (k) [bank(n, m, k)]),
+        row!(imm_fused_estimate(n = 2, m = 1, k = 3) (n) (m) (k) [bank(n, m, k)] [n]),
+        row!(imm_model_probability(n = 2, m = 1, k = 3, model = 2) (n) (m) (k) [bank(n, m, k)] (model) {MARKER}),
         row!(rts_smoother_store_forward(n = 2, room = 3, count = 1) (n) (room) {count as u64}
             [room * 2 * pair(n)] [pair(n)] [pair(n)]),
         row!(rts_smoother_get_state(n = 2, room = 3, count = 1) (n) (room) (count)

@@ -1,6 +1,7 @@
 //! The driver over the Rust of docs/src, which it calls directly. The crate `oxictl` is that source,
 //! byte for byte; `build` makes it.
 
+mod imm;
 mod kalman;
 mod matrix;
 mod rts_smoother;
