@@ -10,7 +10,7 @@ use lib.Ieee.{Float, lt}
 use Rattle.scalar.specs.Number.{_⊗_, _⊘_, +0, epsilon}
 use Rattle.answer.specs.Table.{table, padTo}
 use Rattle.answer.proofs.Tables.{getD-table, length-table}
-use Rattle.algebra.specs.Matrix.{Vector, Matrix, at, row, sum}
+use Rattle.algebra.specs.Matrix.{Vector, Matrix, at, row, sumOf}
 use Rattle.algebra.specs.Array.{cut, used, padRow, pad}
 use Rattle.algebra.proofs.Matrices.{shape-mat}
 use Rattle.algebra.proofs.Arrays.{cut-padRow, used-pad}
@@ -46,7 +46,7 @@ length-updated : (K : ℕ) (B : Bank) → length (updateProbabilities K B .proba
 unfolding updateProbabilities
 length-updated K B =
     let p = table K (λ k. at (B .probabilities) k ⊗ at (B .likelihoods) k) in
-    let s = sum K (at p) in
+    let s = sumOf K (at p) in
     go (lt s epsilon) (λ k. at p k ⊘ s)
   where
     go : (t : Bool) (f : ℕ → Float) → length (cond t (uniform K) (table K f)) ≡ K

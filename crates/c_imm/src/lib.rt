@@ -74,7 +74,10 @@ fn states_at(bank: &[f64], n: Size, k: Size) -> [[f64; 4]; 4]
 }
 
 fn covariances_at(bank: &[f64], n: Size, k: Size) -> [[[f64; 4]; 4]; 4]
-    ensures { λ p. ⌜ p ≡ padTo 4 (replicate 4 (replicate 4 +0)) (table (count k) (λ i. pad (matrixIn (count n) (count n) (now (bank .entry)) (modelPlace (count n) i 1 + count n)))) ⌝ }
+    ensures { λ p. ⌜
+        p
+        ≡ padTo 4 (replicate 4 (replicate 4 +0)) (table (count k)
+        (λ i. pad (matrixIn (count n) (count n) (now (bank .entry)) (modelPlace (count n) i 1 + count n)))) ⌝ }
 {
     let models = number(k);
     let states = number(n);
@@ -231,7 +234,10 @@ pub fn imm_new(
     r: &[f64],
     bank: &mut [f64],
 ) -> u8
-    ensures { λ t. ⌜ (t, now (bank .exit)) ≡ given (now (bank .entry)) (newIn n m k (length (now (bank .entry))) (now (models .entry)) (now (transition .entry)) (now (c .entry)) (now (r .entry))) ⌝ }
+    ensures { λ t. ⌜
+        (t, now (bank .exit))
+        ≡ given (now (bank .entry)) (newIn n m k (length (now (bank .entry))) (now (models .entry)) (now (transition .entry)) (now (c .entry))
+        (now (r .entry))) ⌝ }
 {
     if is_parts(
         n,

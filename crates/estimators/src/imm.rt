@@ -17,7 +17,10 @@ pub extern "C" fn imm_new(
     r: &[f64],
     bank: &mut [f64],
 ) -> u8
-    ensures { λ t. ⌜ (t, now (bank .exit)) ≡ given (now (bank .entry)) (newIn n m k (length (now (bank .entry))) (now (models .entry)) (now (transition .entry)) (now (c .entry)) (now (r .entry))) ⌝ }
+    ensures { λ t. ⌜
+        (t, now (bank .exit))
+        ≡ given (now (bank .entry)) (newIn n m k (length (now (bank .entry))) (now (models .entry)) (now (transition .entry)) (now (c .entry))
+        (now (r .entry))) ⌝ }
 {
     c_imm::imm_new(n, m, k, models, transition, c, r, bank)
 }
