@@ -9,6 +9,7 @@ use crate::frame::down;
 use crate::frame::least;
 use crate::page::put;
 use crate::place_of;
+use sheet_text::Whole;
 
 // The upper edge of stage j, from 0: a metre past its end; the last has none.
 fn edge(d: Duty, j: usize, f: Frame) -> u32
@@ -17,7 +18,14 @@ fn edge(d: Duty, j: usize, f: Frame) -> u32
 {
     if j < d.stages {
         if j + 1 < d.stages {
-            return down(place_of(least(d.ends[j], 9999999) + 1), f);
+            let metres = least(d.ends[j], 9999998) + 1;
+            return down(
+                place_of(Whole {
+                    below: false,
+                    size: metres,
+                }),
+                f,
+            );
         }
     }
     TOP

@@ -1,7 +1,11 @@
 // A duty drawn as the text of an SVG element: the stages as bands, the axes, the smoothed line, the readings, and the stages that
 // smoothing moved. Everything is in whole numbers; drawing is proved safe and to end, and which bytes are drawn is not stated.
+ghost use mathlib.Core.Path.{_≡_};
 ghost use Prim.Native.Nat.{_≤_};
+ghost use lib.ListN.{length};
+ghost use Rattle.drawing.specs.Place.{placeOf};
 use crate::page::put;
+use sheet_text::Whole;
 
 mod bands;
 mod frame;
@@ -9,8 +13,8 @@ mod page;
 mod points;
 mod ticks;
 
-// What is drawn, in its units: seconds from reading to reading, ends in metres, and places in centimetres, of which place_of(0) is
-// the start of the road. A reading is 0 where none was taken; `moved` is the stage by the filter where smoothing changed it, else 0.
+// What is drawn, in its units: seconds from reading to reading, ends in metres, and places in centimetres, of which 2,000,000,000
+// is the start of the road. A reading is 0 where none was taken; `moved` is the stage by the filter where smoothing changed it, else 0.
 pub struct Duty {
     pub step: u32,
     pub stages: usize,
@@ -21,9 +25,16 @@ pub struct Duty {
     pub moved: [u32; 64],
 }
 
-// The place of whole metres from the start of the road on.
-pub fn place_of(metres: u32) -> u32 {
-    2000000000 + 100 * (metres % 20000000)
+// The place of whole metres, within seven digits.
+pub fn place_of(metres: Whole) -> u32
+    ensures { λ r. ⌜ r ≡ placeOf (metres .below) (metres .size) ⌝ }
+{
+    let centimetres = 100 * (metres.size % 10000000);
+    if metres.below {
+        2000000000 - centimetres
+    } else {
+        2000000000 + centimetres
+    }
 }
 
 fn at_most(n: usize, most: usize) -> usize
@@ -103,7 +114,9 @@ fn legend(page: &mut [u8], at: usize) -> usize {
 }
 
 // The text after `<svg` and before `</svg>`, from the page's start on, as much of it as has room; its length.
-pub fn draw(page: &mut [u8], duty: Duty) -> usize {
+pub fn draw(page: &mut [u8], duty: Duty) -> usize
+    ensures { λ r. ⌜ r ≤ length (now (page .entry)) ⌝ }
+{
     let mut d = duty;
     d.count = at_most(d.count, 64);
     d.stages = at_most(d.stages, 32);
@@ -115,5 +128,6 @@ pub fn draw(page: &mut [u8], duty: Duty) -> usize {
     to = ticks::seconds(page, to, f);
     to = points::line(page, to, d, f);
     to = points::readings(page, to, d, f);
-    legend(page, to)
+    to = legend(page, to);
+    at_most(to, page.len())
 }
