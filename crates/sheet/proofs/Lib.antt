@@ -1,3 +1,4 @@
 pub mod Metres
 pub mod Passing
 pub mod Buffer
+pub mod Reporting

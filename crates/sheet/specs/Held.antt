@@ -1,5 +1,4 @@
 -- What the code holds of positions as whole metres, and how a text stands in a lent buffer. Definitions only.
-use mathlib.Core.Bool.{Bool, true, false}
 use mathlib.Core.List.{List, _++_, map}
 use mathlib.Core.Path.{_≡_}
 use Prim.Native.Nat.{ℕ, _+_}

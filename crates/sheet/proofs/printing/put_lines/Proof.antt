@@ -7,7 +7,6 @@ use native.Mathlib.Omega.{arith}
 use lib.ListN.{length, take, getD}
 use lib.Seq.{take-take}
 use denote.Ref.{now}
-use Rattle.sheets.specs.Stage.{stageOf}
 use Rattle.sheets.specs.Output.{readingText, readingsText}
 use Rattle.sheets.proofs.Printing.{lines-none, length-reading}
 use Rattle.sheet_text.specs.Held.{numberOf}

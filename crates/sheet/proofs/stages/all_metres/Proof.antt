@@ -1,6 +1,6 @@
 -- Position after position; the first without whole metres is refused with 9.
 use mathlib.Core.Path.{_≡_, refl, sym, _∙_}
-use Prim.Native.Nat.{_-_, _≤_, _<_}
+use Prim.Native.Nat.{_-_, _≤_}
 use native.Mathlib.Omega.{arith}
 use lib.Ieee.{nan}
 use lib.ListN.{length, take, getD, length-set}
