@@ -1,6 +1,6 @@
 /*
- * The verified estimators for C: matrices, the linear Kalman filter, model mixing and the
- * Rauch-Tung-Striebel smoother.
+ * The verified estimators for C: matrices, the linear, information and square-root Kalman filters, model mixing, the
+ * Rauch-Tung-Striebel smoother and the depot sheet.
  * Link libestimators.a, which `rt staticlib estimators` writes; it needs no other library.
  *
  * Numbers are IEEE 754 doubles and may hold any bits. A matrix is its cells by rows, used sizes only: R x C is
@@ -10,7 +10,8 @@
  * is NULL, not even one with a length of 0; behind it stand as many doubles as the length says, aligned, to be read
  * and, unless it is const, written; and what a call may write through one pointer, it reaches through no other.
  *
- * A function that can refuse returns 0, or the first of these numbers that applies; then nothing is written:
+ * A function that can refuse returns 0, or the first of these numbers that applies; then nothing is written (but see
+ * information_update):
  *   1  a size outside its limits, sizes that disagree, or a slice of another length than is stated
  *   2  smoothing with no slot stored
  *   3  a matrix that inversion rejects
@@ -180,6 +181,55 @@ uint8_t imm_fused_estimate(size_t n, size_t m, size_t k, const double *bank, siz
 /* The probability of a model, from 0, into *out. Refused with 1 too: a model that is not below k. */
 uint8_t imm_model_probability(size_t n, size_t m, size_t k, const double *bank, size_t bank_len, size_t model,
                               double *out);
+
+/* ---- the information filter (information_filter.rs): state n, measurement m, input i
+ *
+ * It keeps the inverted covariance, omega (n x n), and the vector xi (n), omega times the state. A filter is one slice laid
+ * out as the linear filter's, with xi where that has its state and omega where that has its covariance: a, b, h, q, r, xi,
+ * omega. ESTIMATORS_INFORMATION gives its length. Each function is refused with 1: a size outside 1 to 4, or a slice of
+ * another length. A refusal leaves everything unchanged, but for one: see information_update.
+ */
+#define ESTIMATORS_INFORMATION(n, m, i) ESTIMATORS_FILTER(n, m, i)
+
+/* The filter of a model and an estimate: a, q and p0 are n x n, b is n x i, h is m x n, r is m x m, x0 is a vector (n).
+ * Omega is p0 inverted, xi is omega times x0. Refused with 3: inversion rejects p0. */
+uint8_t information_new(size_t n, size_t m, size_t i, const double *a, size_t a_len, const double *b, size_t b_len,
+                        const double *h, size_t h_len, const double *q, size_t q_len, const double *r, size_t r_len,
+                        const double *x0, size_t x0_len, const double *p0, size_t p0_len,
+                        double *filter, size_t filter_len);
+/* The filter of a model, omega0 (n x n) and xi0 (n). */
+uint8_t information_from_information(size_t n, size_t m, size_t i, const double *a, size_t a_len,
+                                     const double *b, size_t b_len, const double *h, size_t h_len,
+                                     const double *q, size_t q_len, const double *r, size_t r_len,
+                                     const double *omega0, size_t omega0_len, const double *xi0, size_t xi0_len,
+                                     double *filter, size_t filter_len);
+/* One step on, with the input u (i): the linear filter's prediction of the state and the covariance that omega and xi
+ * stand for. Refused with 3: inversion rejects omega, or the predicted covariance. */
+uint8_t information_predict(size_t n, size_t m, size_t i, double *filter, size_t filter_len,
+                            const double *u, size_t u_len);
+/* Adds the measurement z (m): Ht R^-1 H to omega, Ht R^-1 z to xi; innovation (m) becomes z less H times the state after
+ * it. Refused with 3: inversion rejects r, and nothing is written; or it rejects the new omega, and then the filter KEEPS
+ * the addition, and innovation is unchanged. */
+uint8_t information_update(size_t n, size_t m, size_t i, double *filter, size_t filter_len,
+                           const double *z, size_t z_len, double *innovation, size_t innovation_len);
+/* Adds what one sensor measured, z (m), by its own h (m x n) and its own inverted noise r_inv (m x m). */
+uint8_t information_fuse_sensor(size_t n, size_t m, size_t i, double *filter, size_t filter_len,
+                                const double *h, size_t h_len, const double *r_inv, size_t r_inv_len,
+                                const double *z, size_t z_len);
+/* The state x0 (n) and the covariance p0 (n x n) in place of the filter's. Refused with 3: inversion rejects p0. */
+uint8_t information_reset(size_t n, size_t m, size_t i, double *filter, size_t filter_len,
+                          const double *x0, size_t x0_len, const double *p0, size_t p0_len);
+/* The state (n), omega inverted times xi, and the covariance (n x n), omega inverted, into out. Refused with 3: inversion
+ * rejects omega. */
+uint8_t information_state(size_t n, size_t m, size_t i, const double *filter, size_t filter_len,
+                          double *out, size_t out_len);
+uint8_t information_covariance(size_t n, size_t m, size_t i, const double *filter, size_t filter_len,
+                               double *out, size_t out_len);
+/* Copies of omega (n x n) and of xi (n) into out. */
+uint8_t information_matrix(size_t n, size_t m, size_t i, const double *filter, size_t filter_len,
+                           double *out, size_t out_len);
+uint8_t information_vector(size_t n, size_t m, size_t i, const double *filter, size_t filter_len,
+                           double *out, size_t out_len);
 
 /* ---- the smoother (rts_smoother.rs): state size n, room for slots, of which the first count are stored
  *

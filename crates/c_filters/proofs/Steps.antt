@@ -31,17 +31,17 @@ use Rattle.c_filters.proofs.Filters.{Whole}
 
 -- f is the slice; N, M and I are the sizes as the code has them, and k where the estimate begins
 module _ (n m i : ℕ) (f : List Float) (W : Whole n m i (length f)) {N M I : Size} {k : ℕ} (en : N ≡ sizeOf n) (em : M ≡ sizeOf m) (ei : I ≡ sizeOf i) (ek : k ≡ estimatePlace n m i) where
-  isN : count N ≡ n
+  pub isN : count N ≡ n
   isN = is-count (Sizes.well-sized n m i (W .sizes) .states) en
 
-  isM : count M ≡ m
+  pub isM : count M ≡ m
   isM = is-count (Sizes.well-sized n m i (W .sizes) .measurements) em
 
-  isI : count I ≡ i
+  pub isI : count I ≡ i
   isI = is-count (Sizes.well-sized n m i (W .sizes) .inputs) ei
 
   -- what is read
-  motion-read : {a b q : Rows} → a ≡ pad (matrixIn (count N) (count N) f 0) → b ≡ pad (matrixIn (count N) (count I) f (n * n))
+  pub motion-read : {a b q : Rows} → a ≡ pad (matrixIn (count N) (count N) f 0) → b ≡ pad (matrixIn (count N) (count I) f (n * n))
       → q ≡ pad (matrixIn (count N) (count N) f (n * n + n * i + m * n)) → motionRows N I a b q ≡ motionAt n m i f
   motion-read ea eb eq =
       let L = filterParts n m i in
@@ -53,22 +53,22 @@ module _ (n m i : ℕ) (f : List Float) (W : Whole n m i (length f)) {N M I : Si
         q = part-read L f 3 (omega (arith, W .long)) (omega arith) isN isN (omega arith) eq t;
       }
 
-  sensor-read : {h r : Rows} → h ≡ pad (matrixIn (count M) (count N) f (n * n + n * i)) → r ≡ pad (matrixIn (count M) (count M) f (n * n + n * i + m * n + n * n))
+  pub sensor-read : {h r : Rows} → h ≡ pad (matrixIn (count M) (count N) f (n * n + n * i)) → r ≡ pad (matrixIn (count M) (count M) f (n * n + n * i + m * n + n * n))
       → sensorRows N M h r ≡ sensorAt n m i f
   sensor-read eh er =
       let L = filterParts n m i in
       λ t. record { n = isN t; m = isM t; h = part-read L f 2 (omega (arith, W .long)) (omega arith) isM isN (omega arith) eh t; r = part-read L f 4 (omega (arith, W .long)) (omega arith) isM isM (omega arith) er t }
 
-  estimate-read : {x : List Float} {p : Rows} → x ≡ padRow (vectorIn (count N) f k) → p ≡ pad (matrixIn (count N) (count N) f (k + n)) → estimateRows N x p ≡ estimateAt n m i f
+  pub estimate-read : {x : List Float} {p : Rows} → x ≡ padRow (vectorIn (count N) f k) → p ≡ pad (matrixIn (count N) (count N) f (k + n)) → estimateRows N x p ≡ estimateAt n m i f
   estimate-read ex ep =
       let L = filterParts n m i in
       λ t. estimate ((vector-used k f isN (omega (arith, W .long, ek)) ex ∙ ap (Rattle.layout.specs.Layout.vectorAt n f) ek) t) (part-read L f 6 (omega (arith, W .long)) (omega arith) isN isN (omega (arith, ek)) ep t)
 
-  vector-given : {j : ℕ} (J : Size) (u : List Float) {v : List Float} → count J ≡ j → length u ≡ j → v ≡ padRow (vectorIn (count J) u 0) → cut (count J) v ≡ u
+  pub vector-given : {j : ℕ} (J : Size) (u : List Float) {v : List Float} → count J ≡ j → length u ≡ j → v ≡ padRow (vectorIn (count J) u 0) → cut (count J) v ≡ u
   vector-given {j} J u d l e = vector-used 0 u d (omega (arith, l)) e ∙ whole-vector j u l
 
   -- an estimate is put back
-  put-back : {e : Estimate} {x : List Float} {p : Rows} {g : List Float} → Sized n e → x ≡ padRow (e .state) → p ≡ pad (e .covariance)
+  pub put-back : {e : Estimate} {x : List Float} {p : Rows} {g : List Float} → Sized n e → x ≡ padRow (e .state) → p ≡ pad (e .covariance)
       → g ≡ putAt k (cut (count N) x ++ joined (used (count N) (count N) p)) f → g ≡ withEstimate n m i f e
   put-back {e} {x} {p} s ex ep q =
       pair-put k f x p isN (omega (arith, W .long, ek)) q

@@ -31,7 +31,7 @@ fn estimate_place(n: usize, m: usize, i: usize) -> usize
 }
 
 // A slice of len numbers is just a filter.
-fn is_filter(n: usize, m: usize, i: usize, len: usize) -> bool
+pub fn is_filter(n: usize, m: usize, i: usize, len: usize) -> bool
     ensures { λ t. ⌜ t ≡ isFilter n m i len ⌝ }
 {
     if steps::is_well_sized(n, m, i) {
@@ -42,7 +42,7 @@ fn is_filter(n: usize, m: usize, i: usize, len: usize) -> bool
 }
 
 // And the k numbers beside it are as many as are asked for.
-fn is_step(n: usize, m: usize, i: usize, len: usize, asked: usize, k: usize) -> bool
+pub fn is_step(n: usize, m: usize, i: usize, len: usize, asked: usize, k: usize) -> bool
     ensures { λ t. ⌜ t ≡ isStep n m i len asked k ⌝ }
 {
     both(is_filter(n, m, i, len), k == asked)
@@ -224,7 +224,7 @@ pub fn kalman_update(
 // ---- copies
 
 // Slices of these lengths are just the parts of a filter of len numbers.
-fn is_parts(
+pub fn is_parts(
     n: usize,
     m: usize,
     i: usize,

@@ -3,6 +3,7 @@
 // of calls on slices, whose contracts they have.
 pub mod filters;
 pub mod imm;
+pub mod information;
 pub mod matrices;
 pub mod numbers;
 pub mod smoothers;

@@ -1,5 +1,5 @@
 -- Steps on rows are steps on a record's numbers, which stand flat; and the ways out of the methods. Assumes nothing.
-use mathlib.Core.Path.{_≡_, refl, sym, ap, subst, _∙_}
+use mathlib.Core.Path.{_≡_, refl, sym, ap, _∙_}
 use mathlib.Core.List.{List, []}
 use mathlib.Core.Bool.{Bool, true, false, _&&_}
 use Prim.Native.Nat.{ℕ}
@@ -8,7 +8,7 @@ use lib.Dec.{eqb}
 use lib.Ieee.{Float}
 use Rattle.answer.specs.declared.Status.{Status}
 use Rattle.answer.specs.declared.Status.the-variants.{Done, Refused}
-use Rattle.answer.specs.Answer.{Answer, refused, answered, and-then, mapped, if-sized, where-sized}
+use Rattle.answer.specs.Answer.{Answer, refused, answered, mapped, if-sized, where-sized}
 use Rattle.answer.specs.Outcome.{Outcome, unchanged, done, into, if-fitting, handed, _else-leave_then_}
 use Rattle.answer.specs.Told.{statusOf}
 use Rattle.answer.proofs.Choice.{and-left}
@@ -23,12 +23,12 @@ use Rattle.matrix.specs.Size.{count, front, part, sizeOf}
 use Rattle.matrix.specs.Result.{asVector}
 use Rattle.matrix.proofs.Sizes.{is-count}
 use Rattle.filtering.specs.Filter.{Motion, Sensor, Estimate}
-use Rattle.filtering.specs.Information.{Information, ofEstimate, predict, update}
+use Rattle.filtering.specs.Information.{Information, ofEstimate, update}
 use Rattle.steps.specs.Step.{Rows, wellSized, fitting, estimateRows}
 use Rattle.steps.proofs.Sizes.{Fits, fits}
 use Rattle.steps.proofs.Flats.{read}
 use Rattle.information_steps.specs.Step.{informationRows, arraysOf, updateBy}
-use Rattle.information_steps.proofs.Ways.{made-sizes, moved, predict-into, update-is}
+use Rattle.information_steps.proofs.Ways.{Plain, plain, made-sizes, update-is}
 use Rattle.information_filter.specs.declared.InformationFilter.{InformationFilter}
 use Rattle.information_filter.specs.declared.Stepped.{Stepped}
 use Rattle.information_filter.specs.Record.{informationFlat, informationFrom, flatsOf, informedFlat, fusible, recordOf, made}
@@ -37,20 +37,14 @@ pub read-information : (n : Size) (w v : List Float) {W : Rows} → W ≡ rowsOf
 read-information n w v e = λ k. record { matrix = read n n w e k; vector = cut (count n) v }
 
 -- ---- a step whose refusal changes nothing: on the rows w and the numbers v, and so in the record's numbers f and v, by its status
-pub data Plain : Outcome Information (Unit {0}) → Type 0 where
-  plain : (a : Answer Information) → Plain (into a)
-
-pub plain-predict : (M : Motion) (u : Vector) (o : Information) → Plain (predict M u o)
-plain-predict M u o = subst Plain (sym (predict-into M u o)) (plain (and-then (inv M.n (o .matrix)) (λ P. ofEstimate M.n (moved M u o P))))
-
 module _ (w : Rows) (f v : List Float) {s : Status} {w′ : Rows} {v′ : List Float} where
-  pub went : {o : Outcome Information (Unit {0})} {f′ : List Float} → Plain o → (s, (w′, v′)) ≡ handed statusOf arraysOf (w, v) o → s ≡ Done → f′ ≡ flatOfRows w′ → (Done, (f′, v′)) ≡ handed statusOf flatsOf (f, v) o
-  went (plain (refused k)) e d p = let z : _≡_ {A = Status} Done (Refused k) = sym d ∙ (λ t. e t .0) in cc
-  went (plain (answered o)) e d p = λ t. (Done, ((p ∙ λ t. flatOfRows (e t .1 .0)) t, e t .1 .1))
+  pub went : {n : ℕ} {o : Outcome Information (Unit {0})} {f′ : List Float} → Plain n o → (s, (w′, v′)) ≡ handed statusOf arraysOf (w, v) o → s ≡ Done → f′ ≡ flatOfRows w′ → (Done, (f′, v′)) ≡ handed statusOf flatsOf (f, v) o
+  went (plain (refused k) l) e d p = let z : _≡_ {A = Status} Done (Refused k) = sym d ∙ (λ t. e t .0) in cc
+  went (plain (answered o) l) e d p = λ t. (Done, ((p ∙ λ t. flatOfRows (e t .1 .0)) t, e t .1 .1))
 
-  pub stopped : {o : Outcome Information (Unit {0})} {k : ℕ} → Plain o → (s, (w′, v′)) ≡ handed statusOf arraysOf (w, v) o → s ≡ Refused k → (Refused k, (f, v′)) ≡ handed statusOf flatsOf (f, v) o
-  stopped (plain (refused j)) e d = λ t. ((sym d ∙ λ t. e t .0) t, (f, e t .1 .1))
-  stopped {k = k} (plain (answered o)) e d = let z : _≡_ {A = Status} Done (Refused k) = (λ t. sym e t .0) ∙ d in cc
+  pub stopped : {n : ℕ} {o : Outcome Information (Unit {0})} {k : ℕ} → Plain n o → (s, (w′, v′)) ≡ handed statusOf arraysOf (w, v) o → s ≡ Refused k → (Refused k, (f, v′)) ≡ handed statusOf flatsOf (f, v) o
+  stopped (plain (refused j) l) e d = λ t. ((sym d ∙ λ t. e t .0) t, (f, e t .1 .1))
+  stopped {k = k} (plain (answered o) l) e d = let z : _≡_ {A = Status} Done (Refused k) = (λ t. sym e t .0) ∙ d in cc
 
 -- ---- an update, by what the inversion of the noise answers
 module _ (Y : Sensor Matrix) (z : Vector) (o : Information) (f v : List Float) where

@@ -72,7 +72,10 @@ module _ (n : Size) (x : List Float) (p : Rows) {w : MatrixResult} (e : w ≡ as
   not-made s = sym (ap of (rejected n p e s))
 
 -- what it leaves is of n states
-pub made-sizes : (n : ℕ) (e : Estimate) {o : Information} → ofEstimate n e ≡ answered o → Shape n n (o .matrix) × (length (o .vector) ≡ n)
+abbrev pub Sized : ℕ → Information → Type 0
+Sized n o = Shape n n (o .matrix) × (length (o .vector) ≡ n)
+
+pub made-sizes : (n : ℕ) (e : Estimate) {o : Information} → ofEstimate n e ≡ answered o → Sized n o
 unfolding ofEstimate
 made-sizes n e {o} q = go (inv n (e .covariance)) refl q
   where
@@ -128,6 +131,20 @@ module _ (M : Motion) (u : Vector) (o : Information) where
 
   pub predict-by : {a : Answer Matrix} → inv M.n (o .matrix) ≡ a → predict M u o ≡ into (and-then a (λ P. ofEstimate M.n (moved P)))
   predict-by q = predict-into ∙ ap (λ (a : Answer Matrix). into (and-then a (λ P. ofEstimate M.n (moved P)))) q
+
+-- ---- a step whose refusal changes nothing, and which else leaves information of n states
+pub data Plain (n : ℕ) : Outcome Information (Unit {0}) → Type 0 where
+  plain : (a : Answer Information) → ((o : Information) → a ≡ answered o → Sized n o) → Plain n (into a)
+
+pub plain-estimate : (n : ℕ) (e : Estimate) → Plain n (into (ofEstimate n e))
+plain-estimate n e = plain (ofEstimate n e) (λ o q. made-sizes n e q)
+
+pub plain-predict : (M : Motion) (u : Vector) (o : Information) → Plain (M .n) (predict M u o)
+plain-predict M u o = subst (Plain (M .n)) (sym (predict-into M u o)) (plain (and-then (inv M.n (o .matrix)) (λ P. ofEstimate M.n (moved M u o P))) (sizes (inv M.n (o .matrix))))
+  where
+    sizes : (a : Answer Matrix) (l : Information) → and-then a (λ P. ofEstimate M.n (moved M u o P)) ≡ answered l → Sized (M .n) l
+    sizes (refused k) l q = absurd (differ q)
+    sizes (answered P) l q = made-sizes M.n (moved M u o P) q
 
 module _ (n i : Size) (a b q : Rows) (u : List Float) (w : Rows) (v : List Float) {r : MatrixResult} (e : r ≡ asMatrix (inv (count n) (part n n w))) where
   abbrev motion : Motion

@@ -6,7 +6,8 @@ use Rattle.matrix.specs.Size.{front}
 use Rattle.filtering.specs.Information.{predict}
 use Rattle.steps.proofs.Flats.{read-motion}
 use Rattle.information_steps.specs.Step.{arraysOf}
-use Rattle.information_filter.proofs.Ways.{read-information, plain-predict, went, stopped}
+use Rattle.information_steps.proofs.Ways.{plain-predict}
+use Rattle.information_filter.proofs.Ways.{read-information, went, stopped}
 use borrow.Author.Needs.{needs}
 use Rattle.information_filter.proofs.predict_rows.Statement.{statement}
 use Rattle.information_filter.proofs.predict_rows.Tie as tie

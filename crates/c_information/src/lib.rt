@@ -1,0 +1,310 @@
+// src/estimator/information_filter.rs on a slice that the caller lends: a filter of state n, measurement m and input i is a, b,
+// h, q, r, xi and omega by rows, one after another, as a linear filter is with its state and covariance. A step reads the parts
+// that it needs as rows, once, and writes xi and omega back, once. Refused with 1: a size, or a slice of another length.
+ghost use mathlib.Core.Path.{_≡_};
+ghost use lib.ListN.{length};
+ghost use Rattle.answer.specs.Told.{given};
+ghost use Rattle.c_information.specs.Information.{isSensor, predictIn, updateIn, fuseIn, resetIn, fromInformationIn, newIn};
+ghost use Rattle.c_information.specs.Information.{stateIn, covarianceIn, vectorIn, matrixIn};
+use answer::Status;
+use c_filters::is_filter;
+use c_filters::is_parts;
+use c_filters::is_step;
+use matrix::both;
+use matrix::size_of;
+
+// ---- the steps
+
+// One step on, with the input u of i numbers. Refused with 3, and nothing changes: inversion rejects omega, or the predicted
+// covariance.
+pub fn information_predict(n: usize, m: usize, i: usize, filter: &mut [f64], u: &[f64]) -> u8
+    ensures { λ t. ⌜ (t, now (filter .exit)) ≡ predictIn n m i (now (filter .entry)) (now (u .entry)) ⌝ }
+{
+    if is_step(n, m, i, filter.len(), i, u.len()) {
+        let from = filter.len() - (n + n * n);
+        let sn = size_of(n);
+        let si = size_of(i);
+        let a = layout::matrix_at(filter, 0, sn, sn);
+        let b = layout::matrix_at(filter, n * n, sn, si);
+        let q = layout::matrix_at(filter, n * n + n * i + m * n, sn, sn);
+        let v = layout::vector_at(u, 0, si);
+        let mut xi = layout::vector_at(filter, from, sn);
+        let mut omega = layout::matrix_at(filter, from + n, sn, sn);
+        let answer = information_steps::predict(&a, &b, &q, &v, sn, si, &mut omega, &mut xi);
+        match answer {
+            Status::Done => {
+                layout::put_pair(filter, from, xi, &omega, sn);
+                0
+            }
+            Status::Refused(number) => number,
+        }
+    } else {
+        1
+    }
+}
+
+// Updated by the measurement z of m numbers; the innovation is z less H times the state after. Refused with 3: inversion rejects
+// r, and nothing is written; or the new omega, and the filter keeps the addition.
+pub fn information_update(
+    n: usize,
+    m: usize,
+    i: usize,
+    filter: &mut [f64],
+    z: &[f64],
+    innovation: &mut [f64],
+) -> u8
+    ensures { λ t. ⌜ (t, (now (filter .exit), now (innovation .exit))) ≡ updateIn n m i (now (filter .entry)) (now (z .entry)) (now (innovation .entry)) ⌝ }
+{
+    if both(
+        is_step(n, m, i, filter.len(), m, z.len()),
+        innovation.len() == m,
+    ) {
+        let from = filter.len() - (n + n * n);
+        let sn = size_of(n);
+        let sm = size_of(m);
+        let r = layout::matrix_at(filter, n * n + n * i + m * n + n * n, sm, sm);
+        let w = inverse::inverse_of(&r, sm);
+        let noise = w.status;
+        match noise {
+            Status::Done => {
+                let inverted = matrix::rows_of(w);
+                let h = layout::matrix_at(filter, n * n + n * i, sm, sn);
+                let v = layout::vector_at(z, 0, sm);
+                let mut xi = layout::vector_at(filter, from, sn);
+                let mut omega = layout::matrix_at(filter, from + n, sn, sn);
+                let answer = information_steps::update_by(
+                    &h,
+                    &inverted,
+                    &v,
+                    sn,
+                    sm,
+                    &mut omega,
+                    &mut xi,
+                );
+                layout::put_pair(filter, from, xi, &omega, sn);
+                let status = answer.status;
+                match status {
+                    Status::Done => {
+                        let y = answer.cells;
+                        layout::put_vector(innovation, 0, y, sm);
+                        0
+                    }
+                    Status::Refused(number) => number,
+                }
+            }
+            Status::Refused(number) => number,
+        }
+    } else {
+        1
+    }
+}
+
+// One sensor's addition: h (m by n), its inverted noise r_inv (m by m), and what it measured, z (m).
+pub fn information_fuse_sensor(
+    n: usize,
+    m: usize,
+    i: usize,
+    filter: &mut [f64],
+    h: &[f64],
+    r_inv: &[f64],
+    z: &[f64],
+) -> u8
+    ensures { λ t. ⌜ (t, now (filter .exit)) ≡ fuseIn n m i (now (filter .entry)) (now (h .entry)) (now («r_inv» .entry)) (now (z .entry)) ⌝ }
+{
+    if is_sensor(n, m, i, filter.len(), h.len(), r_inv.len(), z.len()) {
+        let from = filter.len() - (n + n * n);
+        let sn = size_of(n);
+        let sm = size_of(m);
+        let hm = layout::matrix_at(h, 0, sm, sn);
+        let w = layout::matrix_at(r_inv, 0, sm, sm);
+        let v = layout::vector_at(z, 0, sm);
+        let mut xi = layout::vector_at(filter, from, sn);
+        let mut omega = layout::matrix_at(filter, from + n, sn, sn);
+        information_steps::inform(&hm, &w, &v, sn, sm, &mut omega, &mut xi);
+        layout::put_pair(filter, from, xi, &omega, sn);
+        0
+    } else {
+        1
+    }
+}
+
+// Slices of these lengths are just a sensor, beside a filter of len numbers.
+fn is_sensor(n: usize, m: usize, i: usize, len: usize, h: usize, w: usize, z: usize) -> bool
+    ensures { λ t. ⌜ t ≡ isSensor n m i len h w z ⌝ }
+{
+    if is_step(n, m, i, len, m, z) {
+        both(h == m * n, w == m * m)
+    } else {
+        false
+    }
+}
+
+// Another state x0 and covariance p0; the model stays. Refused with 3: inversion rejects p0.
+pub fn information_reset(
+    n: usize,
+    m: usize,
+    i: usize,
+    filter: &mut [f64],
+    x0: &[f64],
+    p0: &[f64],
+) -> u8
+    ensures { λ t. ⌜ (t, now (filter .exit)) ≡ resetIn n m i (now (filter .entry)) (now (x0 .entry)) (now (p0 .entry)) ⌝ }
+{
+    if is_step(n, m, i, filter.len(), n, x0.len()) {
+        if p0.len() == n * n {
+            let from = filter.len() - (n + n * n);
+            let sn = size_of(n);
+            let x = layout::vector_at(x0, 0, sn);
+            let p = layout::matrix_at(p0, 0, sn, sn);
+            let mut omega = [[0.0; 4]; 4];
+            let mut xi = [0.0; 4];
+            let answer = information_steps::of_estimate(&x, &p, sn, &mut omega, &mut xi);
+            match answer {
+                Status::Done => {
+                    layout::put_pair(filter, from, xi, &omega, sn);
+                    return 0;
+                }
+                Status::Refused(number) => {
+                    return number;
+                }
+            }
+        }
+    }
+    1
+}
+
+// ---- a filter of its parts
+
+// Of the parts a, b, h, q and r, and of omega0 and xi0, each by rows.
+pub fn information_from_information(
+    n: usize,
+    m: usize,
+    i: usize,
+    a: &[f64],
+    b: &[f64],
+    h: &[f64],
+    q: &[f64],
+    r: &[f64],
+    omega0: &[f64],
+    xi0: &[f64],
+    filter: &mut [f64],
+) -> u8
+    ensures { λ t. ⌜ (t, now (filter .exit)) ≡ given (now (filter .entry)) (fromInformationIn n m i (length (now (filter .entry))) (now (a .entry)) (now (b .entry)) (now (h .entry)) (now (q .entry)) (now (r .entry)) (now (omega0 .entry)) (now (xi0 .entry))) ⌝ }
+{
+    c_filters::kalman_new(n, m, i, a, b, h, q, r, xi0, omega0, filter)
+}
+
+// Of the parts a, b, h, q and r, and of an estimate: omega is p0 inverted, and xi is omega times x0. Refused with 3: inversion
+// rejects p0.
+pub fn information_new(
+    n: usize,
+    m: usize,
+    i: usize,
+    a: &[f64],
+    b: &[f64],
+    h: &[f64],
+    q: &[f64],
+    r: &[f64],
+    x0: &[f64],
+    p0: &[f64],
+    filter: &mut [f64],
+) -> u8
+    ensures { λ t. ⌜ (t, now (filter .exit)) ≡ given (now (filter .entry)) (newIn n m i (length (now (filter .entry))) (now (a .entry)) (now (b .entry)) (now (h .entry)) (now (q .entry)) (now (r .entry)) (now (x0 .entry)) (now (p0 .entry))) ⌝ }
+{
+    if is_parts(
+        n,
+        m,
+        i,
+        filter.len(),
+        a.len(),
+        b.len(),
+        h.len(),
+        q.len(),
+        r.len(),
+        x0.len(),
+        p0.len(),
+    ) {
+        let sn = size_of(n);
+        let x = layout::vector_at(x0, 0, sn);
+        let p = layout::matrix_at(p0, 0, sn, sn);
+        let mut omega = [[0.0; 4]; 4];
+        let mut xi = [0.0; 4];
+        let answer = information_steps::of_estimate(&x, &p, sn, &mut omega, &mut xi);
+        match answer {
+            Status::Done => {
+                let from = filter.len() - (n + n * n);
+                c_filters::kalman_new(n, m, i, a, b, h, q, r, x0, p0, filter);
+                layout::put_pair(filter, from, xi, &omega, sn);
+                0
+            }
+            Status::Refused(number) => number,
+        }
+    } else {
+        1
+    }
+}
+
+// ---- what is read
+
+// The state, n numbers: omega inverted, times xi. Refused with 3: inversion rejects omega.
+pub fn information_state(n: usize, m: usize, i: usize, filter: &[f64], out: &mut [f64]) -> u8
+    ensures { λ t. ⌜ (t, now (out .exit)) ≡ given (now (out .entry)) (stateIn n m i (now (filter .entry)) (length (now (out .entry)))) ⌝ }
+{
+    if is_step(n, m, i, filter.len(), n, out.len()) {
+        let from = filter.len() - (n + n * n);
+        let sn = size_of(n);
+        let xi = layout::vector_at(filter, from, sn);
+        let omega = layout::matrix_at(filter, from + n, sn, sn);
+        let x = information_steps::state(&omega, &xi, sn);
+        let status = x.status;
+        match status {
+            Status::Done => {
+                let cells = x.cells;
+                layout::put_vector(out, 0, cells, sn);
+                0
+            }
+            Status::Refused(number) => number,
+        }
+    } else {
+        1
+    }
+}
+
+// The covariance, n rows of n numbers: omega inverted. Refused with 3: inversion rejects omega.
+pub fn information_covariance(n: usize, m: usize, i: usize, filter: &[f64], out: &mut [f64]) -> u8
+    ensures { λ t. ⌜ (t, now (out .exit)) ≡ given (now (out .entry)) (covarianceIn n m i (now (filter .entry)) (length (now (out .entry)))) ⌝ }
+{
+    if is_filter(n, m, i, filter.len()) {
+        if out.len() == n * n {
+            let from = filter.len() - n * n;
+            let sn = size_of(n);
+            let omega = layout::matrix_at(filter, from, sn, sn);
+            let p = inverse::inverse_of(&omega, sn);
+            let status = p.status;
+            match status {
+                Status::Done => {
+                    let rows = matrix::rows_of(p);
+                    layout::put_matrix(out, 0, &rows, sn, sn);
+                    return 0;
+                }
+                Status::Refused(number) => {
+                    return number;
+                }
+            }
+        }
+    }
+    1
+}
+
+// Copies of omega, n rows of n numbers, and of xi, n numbers.
+pub fn information_matrix(n: usize, m: usize, i: usize, filter: &[f64], out: &mut [f64]) -> u8
+    ensures { λ t. ⌜ (t, now (out .exit)) ≡ given (now (out .entry)) (matrixIn n m i (now (filter .entry)) (length (now (out .entry)))) ⌝ }
+{
+    c_filters::kalman_covariance(n, m, i, filter, out)
+}
+
+pub fn information_vector(n: usize, m: usize, i: usize, filter: &[f64], out: &mut [f64]) -> u8
+    ensures { λ t. ⌜ (t, now (out .exit)) ≡ given (now (out .entry)) (vectorIn n m i (now (filter .entry)) (length (now (out .entry)))) ⌝ }
+{
+    c_filters::kalman_state(n, m, i, filter, out)
+}
