@@ -231,6 +231,54 @@ uint8_t information_matrix(size_t n, size_t m, size_t i, const double *filter, s
 uint8_t information_vector(size_t n, size_t m, size_t i, const double *filter, size_t filter_len,
                            double *out, size_t out_len);
 
+/* ---- the square-root filter (sqrt_kalman.rs): state n, measurement m, input i
+ *
+ * A filter is one slice: a, b, h and q as in the linear filter, then each measurement's standard deviation r_diag (m),
+ * the state x (n) and the factor s (n x n), a lower triangle with s times its transpose = the covariance.
+ * ESTIMATORS_SQRT gives its length. Each function is refused with 1: a size outside 1 to 4, or a slice of another length;
+ * that leaves everything unchanged. What another refusal leaves is said with the function.
+ *
+ * The downdate of an update is the Rust's, which turns its vector with the old cells of the factor where the textbook
+ * has the new ones; so from two states on, the factor after an update is not that of the linear filter's covariance.
+ * With covariance (1, 0; 0, 1), h = (1, 1) and deviation 1 the second state's variance is 0.9444, and the linear filter's
+ * is 0.6667: do not take these variances for the errors' size.
+ */
+#define ESTIMATORS_SQRT(n, m, i) (2 * (n) * (n) + (n) * (i) + (m) * (n) + (m) + ESTIMATORS_PAIR(n))
+
+/* The filter of a model, the state x0 (n) and the covariance p0 (n x n), whose lower triangle alone is read. Refused
+ * with 4: p0 has no factor; then filter is unchanged. */
+uint8_t sqrt_kalman_new(size_t n, size_t m, size_t i, const double *a, size_t a_len, const double *b, size_t b_len,
+                        const double *h, size_t h_len, const double *q, size_t q_len,
+                        const double *r_diag, size_t r_diag_len, const double *x0, size_t x0_len,
+                        const double *p0, size_t p0_len, double *filter, size_t filter_len);
+/* The same with the factor s0 (n x n) itself. */
+uint8_t sqrt_kalman_from_cholesky(size_t n, size_t m, size_t i, const double *a, size_t a_len,
+                                  const double *b, size_t b_len, const double *h, size_t h_len,
+                                  const double *q, size_t q_len, const double *r_diag, size_t r_diag_len,
+                                  const double *x0, size_t x0_len, const double *s0, size_t s0_len,
+                                  double *filter, size_t filter_len);
+/* One step on, with the input u (i): the state becomes A x + B u, the factor that of A P At + Q. Refused with 4: there
+ * is none; then the state is the new one, and the factor the old. */
+uint8_t sqrt_kalman_predict(size_t n, size_t m, size_t i, double *filter, size_t filter_len,
+                            const double *u, size_t u_len);
+/* Corrects state and factor by the measurement z (m), one component after another, each from what the one before it
+ * left; innovation (m) gets what each component less h times the state before it is. Refused with 3: a component's
+ * variance is at or below zero; then the filter is as after the components before it. With 4: its downdate; then the
+ * state is updated by it, and the factor's columns before the failing one are turned. Either leaves innovation unchanged. */
+uint8_t sqrt_kalman_update(size_t n, size_t m, size_t i, double *filter, size_t filter_len,
+                           const double *z, size_t z_len, double *innovation, size_t innovation_len);
+/* The state x0 (n) and the factor of p0 (n x n) in place of the filter's. Refused with 4: p0 has no factor; then filter
+ * is unchanged. */
+uint8_t sqrt_kalman_reset(size_t n, size_t m, size_t i, double *filter, size_t filter_len,
+                          const double *x0, size_t x0_len, const double *p0, size_t p0_len);
+/* Copies of the state, a vector (n), and of the factor (n x n), and the covariance (n x n), into out. */
+uint8_t sqrt_kalman_state(size_t n, size_t m, size_t i, const double *filter, size_t filter_len,
+                          double *out, size_t out_len);
+uint8_t sqrt_kalman_cholesky_factor(size_t n, size_t m, size_t i, const double *filter, size_t filter_len,
+                                    double *out, size_t out_len);
+uint8_t sqrt_kalman_covariance(size_t n, size_t m, size_t i, const double *filter, size_t filter_len,
+                               double *out, size_t out_len);
+
 /* ---- the smoother (rts_smoother.rs): state size n, room for slots, of which the first count are stored
  *
  * A slot is two pairs, filtered and predicted for the next step; a pair is a state (n) and its covariance (n x n). The

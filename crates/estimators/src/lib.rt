@@ -7,3 +7,4 @@ pub mod information;
 pub mod matrices;
 pub mod numbers;
 pub mod smoothers;
+pub mod sqrt_kalman;

@@ -99,3 +99,7 @@ modelLength n = n * n + pairLength n + n * n + 1
 -- a bank of k models of n states and m measurements: the models, a row for each, the transition, c, r and the probabilities
 abbrev pub bankParts : ℕ → ℕ → ℕ → Parts
 bankParts n m k = (k, modelLength n) ∷ (k, k) ∷ (m, n) ∷ (m, m) ∷ (k, 1) ∷ []
+
+-- a square-root filter: r is each measurement's deviation, and the state's factor stands in place of the covariance
+abbrev pub rootParts : ℕ → ℕ → ℕ → Parts
+rootParts n m i = (n, n) ∷ (n, i) ∷ (m, n) ∷ (n, n) ∷ (m, 1) ∷ pairParts n

@@ -1,0 +1,4 @@
+pub mod Filters
+pub mod Outcomes
+pub mod Steps
+pub mod Starts
