@@ -6,11 +6,12 @@ pub enum Family {
     Scalar,
     Matrix,
     Kalman,
+    SqrtKalman,
     Imm,
     RtsSmoother,
 }
 
-use Family::{Imm, Kalman, Matrix, RtsSmoother, Scalar};
+use Family::{Imm, Kalman, Matrix, RtsSmoother, Scalar, SqrtKalman};
 
 /// Every call, in the order of PROTOCOL.md.
 pub const OPS: &[(&str, Family)] = &[
@@ -54,6 +55,13 @@ pub const OPS: &[(&str, Family)] = &[
     ("kf_reset", Kalman),
     ("kf_posvel", Kalman),
     ("kf_seq", Kalman),
+    ("sq_new", SqrtKalman),
+    ("sq_from_cholesky", SqrtKalman),
+    ("sq_predict", SqrtKalman),
+    ("sq_update", SqrtKalman),
+    ("sq_cov", SqrtKalman),
+    ("sq_reset", SqrtKalman),
+    ("sq_seq", SqrtKalman),
     ("imm_new", Imm),
     ("imm_mix", Imm),
     ("imm_probs", Imm),
@@ -69,7 +77,8 @@ pub const OPS: &[(&str, Family)] = &[
 pub fn refusals(op: &str) -> &'static [u8] {
     match op {
         "inv" | "kf_update" | "kf_seq" => &[3],
-        "cholesky" => &[4],
+        "cholesky" | "sq_new" | "sq_predict" | "sq_reset" => &[4],
+        "sq_update" | "sq_seq" => &[3, 4],
         "rts_store" => &[5],
         "rts_get" => &[6],
         "rts_smooth" | "rts_stale" => &[2, 3],
@@ -78,7 +87,7 @@ pub fn refusals(op: &str) -> &'static [u8] {
 }
 
 /// Calls of PROTOCOL.md that no driver answers: modules that are not ported.
-const NOT_PORTED: &[&str] = &["if_", "sq_", "imm_update_all", "fis_"];
+const NOT_PORTED: &[&str] = &["if_", "imm_update_all", "fis_"];
 
 /// The module of the call `op`, or what both drivers say instead.
 pub fn family(op: &[u8]) -> Result<Family, &'static str> {

@@ -243,6 +243,7 @@ macro_rules! driver {
                 Family::Matrix => matrix::call(op, words, answer),
                 Family::Kalman => kalman::call(op, words, answer),
                 Family::Imm => imm::call(op, words, answer),
+                Family::SqrtKalman => sqrt_kalman::call(op, words, answer),
                 Family::RtsSmoother => rts_smoother::call(op, words, answer),
             }
         }

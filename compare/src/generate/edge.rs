@@ -335,6 +335,7 @@ pub fn calls() -> Vec<Call> {
             calls.extend(smoothers(&mut draw, n, room));
         }
     }
+    calls.extend(crate::sqrt_kalman::edges(&mut draw));
     // The greatest: four states, 64 slots.
     let slots = good_slots(&mut draw, 4, 64);
     calls.push(with_slots(Call::new("rts_smooth").wholes(&[4, 64, 64]).with(&upper(4)), &slots));

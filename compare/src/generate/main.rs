@@ -10,6 +10,7 @@ mod matrix;
 mod rts_smoother;
 mod scalar;
 mod shapes;
+mod sqrt_kalman;
 mod text;
 
 use compare::ops::Family;
@@ -18,10 +19,11 @@ use std::io::{self, BufWriter, Write};
 use text::Call;
 
 /// How many of 100 calls each module gets.
-const SHARES: [(Family, u64); 5] = [
+const SHARES: [(Family, u64); 6] = [
     (Family::Scalar, 8),
-    (Family::Matrix, 40),
-    (Family::Kalman, 28),
+    (Family::Matrix, 28),
+    (Family::Kalman, 20),
+    (Family::SqrtKalman, 20),
     (Family::Imm, 9),
     (Family::RtsSmoother, 15),
 ];
@@ -34,6 +36,7 @@ fn call(seed: u64, k: u64, short: bool) -> Call {
         Family::Matrix => matrix::call(&mut draw),
         Family::Kalman => kalman::call(&mut draw),
         Family::Imm => imm::call(&mut draw),
+        Family::SqrtKalman => sqrt_kalman::call(&mut draw),
         Family::RtsSmoother => rts_smoother::call(&mut draw, short),
     }
 }

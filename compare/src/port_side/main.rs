@@ -7,5 +7,6 @@ mod lent;
 mod matrix;
 mod rts_smoother;
 mod scalar;
+mod sqrt_kalman;
 
 compare::driver!();

@@ -67,6 +67,10 @@ fn bank(n: usize, m: usize, k: usize) -> usize {
     models(n, k) + k * k + m * n + m * m + k
 }
 
+fn root(n: usize, m: usize, i: usize) -> usize {
+    2 * n * n + n * i + m * n + m + pair(n)
+}
+
 #[rustfmt::skip]
 pub fn rows() -> Vec<Row> {
     vec![
@@ -110,6 +114,16 @@ pub fn rows() -> Vec<Row> {
         row!(imm_update_probabilities(n = 2, m = 1, k = 3) (n) (m) (k) [bank(n, m, k)]),
         row!(imm_fused_estimate(n = 2, m = 1, k = 3) (n) (m) (k) [bank(n, m, k)] [n]),
         row!(imm_model_probability(n = 2, m = 1, k = 3, model = 2) (n) (m) (k) [bank(n, m, k)] (model) {MARKER}),
+        row!(sqrt_kalman_new(n = 2, m = 3, i = 1) (n) (m) (i)
+            [n * n] [n * i] [m * n] [n * n] [m] [n] [n * n] [root(n, m, i)]),
+        row!(sqrt_kalman_from_cholesky(n = 2, m = 3, i = 1) (n) (m) (i)
+            [n * n] [n * i] [m * n] [n * n] [m] [n] [n * n] [root(n, m, i)]),
+        row!(sqrt_kalman_predict(n = 2, m = 3, i = 1) (n) (m) (i) [root(n, m, i)] [i]),
+        row!(sqrt_kalman_update(n = 2, m = 3, i = 1) (n) (m) (i) [root(n, m, i)] [m] [m]),
+        row!(sqrt_kalman_reset(n = 2, m = 3, i = 1) (n) (m) (i) [root(n, m, i)] [n] [n * n]),
+        row!(sqrt_kalman_state(n = 2, m = 3, i = 1) (n) (m) (i) [root(n, m, i)] [n]),
+        row!(sqrt_kalman_cholesky_factor(n = 2, m = 3, i = 1) (n) (m) (i) [root(n, m, i)] [n * n]),
+        row!(sqrt_kalman_covariance(n = 2, m = 3, i = 1) (n) (m) (i) [root(n, m, i)] [n * n]),
         row!(rts_smoother_store_forward(n = 2, room = 3, count = 1) (n) (room) {count as u64}
             [room * 2 * pair(n)] [pair(n)] [pair(n)]),
         row!(rts_smoother_get_state(n = 2, room = 3, count = 1) (n) (room) (count)

@@ -6,5 +6,6 @@ mod kalman;
 mod matrix;
 mod rts_smoother;
 mod scalar;
+mod sqrt_kalman;
 
 compare::driver!();
