@@ -8,6 +8,7 @@ mod imm;
 mod library;
 mod port;
 mod rust;
+mod sqrt_kalman;
 
 use oxictl::core::matrix::Matrix;
 use std::hint::black_box;
@@ -210,6 +211,8 @@ fn main() {
     filter::<4, 2, 2>();
     imm::mixing::<2>();
     imm::mixing::<4>();
+    sqrt_kalman::rows::<2, 1, 1>();
+    sqrt_kalman::rows::<4, 2, 2>();
     smooth::<2>("smooth", 64);
     smooth::<4>("smooth", 64);
     for count in [8, 16, 32, 64] {
