@@ -1,2 +1,3 @@
 pub mod Banks
+pub mod Puts
 pub mod Steps

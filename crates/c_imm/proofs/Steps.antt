@@ -5,10 +5,10 @@ use mathlib.Core.Bool.{Bool, true, false, cond}
 use Prim.Native.Nat.{ℕ, _+_, _*_, _≤_, _<_}
 use native.Mathlib.Nat.{le-trans}
 use native.Mathlib.Omega.{arith}
-use lib.ListN.{length, getD, replicate}
+use lib.ListN.{length, getD}
 use lib.Ieee.{Float, lt}
-use Rattle.scalar.specs.Number.{_⊗_, _⊘_, +0, epsilon}
-use Rattle.answer.specs.Table.{table, padTo}
+use Rattle.scalar.specs.Number.{_⊗_, _⊘_, epsilon}
+use Rattle.answer.specs.Table.{table}
 use Rattle.answer.proofs.Tables.{getD-table, length-table}
 use Rattle.algebra.specs.Matrix.{Vector, Matrix, at, row, sumOf}
 use Rattle.algebra.specs.Array.{cut, used, padRow, pad}
@@ -23,10 +23,11 @@ use Rattle.mixing.specs.Mixing.{Bank, model, uniform, predicted, weighted, weig
 use Rattle.layout.specs.Layout.{vectorAt, vectorIn, matrixIn, placed, putAt, bankParts, modelLength}
 use Rattle.layout.proofs.Places.{placed-whole}
 use Rattle.layout.proofs.Calls.{vector-used, vector-put, part-read}
-use Rattle.imm_steps.specs.Bank.{bankRows, rowsOf}
+use Rattle.imm_steps.specs.Bank.{bankRows, rowsOf, mixedRows}
 use Rattle.imm_steps.proofs.Holders.{mixed-held, fused-held, probabilities-held}
-use Rattle.c_imm.specs.Bank.{modelPlace, probabilitiesPlace, bankAt, transitionAt, withEstimates, withProbabilities, withBank}
-use Rattle.c_imm.proofs.Banks.{Whole, length-uniform, held, likelihoods-read, with-same}
+use Rattle.c_imm.specs.Bank.{probabilitiesPlace, bankAt, transitionAt, statesIn, covariancesIn, likelihoodsIn, withEstimates, withProbabilities, withBank}
+use Rattle.c_imm.proofs.Banks.{Whole, held, likelihoods-read}
+use Rattle.c_imm.proofs.Puts.{length-uniform, with-same}
 
 -- ---- how long the results are
 mixed-sized : (n K : ℕ) (B : Bank) (w : Vector) → Sized n (mixedEstimate n K B w)
@@ -74,10 +75,10 @@ module _ (n m k : ℕ) (b : List Float) (W : Whole n m k (length b)) (sn sk : Si
   module _ {t x x′ : List (List Float)} {p p′ : List (List (List Float))} {μ μ′ : List Float} {l : ℕ}
       (el : l ≡ modelLength n)
       (et : t ≡ pad (matrixIn (count sk) (count sk) b (k * l)))
-      (ex : x ≡ padTo 4 (replicate 4 +0) (table (count sk) (λ i. padRow (vectorIn (count sn) b (modelPlace (count sn) i 1)))))
-      (ep : p ≡ padTo 4 (replicate 4 (replicate 4 +0)) (table (count sk) (λ i. pad (matrixIn (count sn) (count sn) b (modelPlace (count sn) i 1 + count sn)))))
+      (ex : x ≡ statesIn (count sn) (count sk) b)
+      (ep : p ≡ covariancesIn (count sn) (count sk) b)
       (eμ : μ ≡ padRow (vectorIn (count sk) b from))
-      (s : (x′, (p′, μ′)) ≡ rowsOf (mixEstimates (count sn) (count sk) (part sk sk t) (bankRows sn sk x p [] μ))) where
+      (s : (x′, (p′, μ′)) ≡ mixedRows sn sk t x p μ) where
     abbrev M : Bank
     M = mixEstimates n k (transitionAt n m k b) B
 
@@ -107,7 +108,7 @@ module _ (n m k : ℕ) (b : List Float) (W : Whole n m k (length b)) (sn sk : Si
         ∙ ap (λ (c : List Float). withProbabilities n m k c M) (e ∙ ap₂ (λ (i j : ℕ). withEstimates i j b (bankRows sn sk x′ p′ [] [])) en ek ∙ with-same n b (bankRows sn sk x′ p′ [] []) M k model-mixed)
 
   -- ---- the probabilities
-  pub updates : {l μ μ′ b₁ : List Float} → l ≡ padTo 4 +0 (table (count sk) (λ i. at (padRow (vectorIn 1 b (modelPlace (count sn) i 4))) 0))
+  pub updates : {l μ μ′ b₁ : List Float} → l ≡ likelihoodsIn (count sn) (count sk) b
       → μ ≡ padRow (vectorIn (count sk) b from)
       → μ′ ≡ padRow (updateProbabilities (count sk) (bankRows sk sk [] [] l μ) .probabilities)
       → b₁ ≡ putAt from (cut (count sk) μ′) b → b₁ ≡ withProbabilities n m k b (updateProbabilities k B)
@@ -117,7 +118,7 @@ module _ (n m k : ℕ) (b : List Float) (W : Whole n m k (length b)) (sn sk : Si
 
   -- ---- the fused state
   pub fuses : {x : List (List Float)} {μ v : List Float} (o : List Float) {o₁ : List Float}
-      → x ≡ padTo 4 (replicate 4 +0) (table (count sk) (λ i. padRow (vectorIn (count sn) b (modelPlace (count sn) i 1))))
+      → x ≡ statesIn (count sn) (count sk) b
       → μ ≡ padRow (vectorIn (count sk) b from)
       → v ≡ padRow (weighted (count sn) (count sk) (bankRows sn sk x [] [] []) (cut (count sk) μ)) → length o ≡ n
       → o₁ ≡ putAt 0 (cut (count sn) v) o → o₁ ≡ fusedEstimate n k B

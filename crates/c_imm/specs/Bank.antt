@@ -3,16 +3,18 @@ use Prim.Native.Nat.{ℕ, zero, suc, _+_, _*_}
 use mathlib.Core.List.{List, [], _∷_, _++_}
 use mathlib.Core.Bool.{Bool, _&&_}
 use lib.Dec.{eqb, ltb}
-use lib.ListN.{length}
+use lib.ListN.{length, replicate}
 use lib.Ieee.{Float}
 use Rattle.answer.specs.Answer.{Answer, where-sized}
 use Rattle.answer.specs.Outcome.{into, handed}
 use Rattle.answer.specs.Told.{numberOf}
-use Rattle.answer.specs.Table.{table}
+use Rattle.answer.specs.Table.{table, padTo}
+use Rattle.scalar.specs.Number.{+0}
 use Rattle.algebra.specs.Matrix.{Vector, Matrix, at}
+use Rattle.algebra.specs.Array.{padRow, pad}
 use Rattle.filtering.specs.Filter.{Estimate, estimate}
 use Rattle.mixing.specs.Mixing.{Bank, model, uniform, mixEstimates, updateProbabilities, fusedEstimate}
-use Rattle.layout.specs.Layout.{vectorAt, matrixAt, joined, placed, total, offset, partAt, modelParts, modelLength, bankParts}
+use Rattle.layout.specs.Layout.{vectorAt, matrixAt, vectorIn, matrixIn, joined, placed, total, offset, partAt, modelParts, modelLength, bankParts}
 use Rattle.steps.specs.Step.{wellSized}
 
 -- ---- sizes and places
@@ -54,6 +56,16 @@ bankAt n m k b = record {
 
 abbrev pub transitionAt : ℕ → ℕ → ℕ → List Float → Matrix
 transitionAt n m k b = partAt (bankParts n m k) b 1
+
+-- ---- and in arrays, as the code reads it: a place outside the slice reads as +0
+abbrev pub statesIn : ℕ → ℕ → List Float → List (List Float)
+statesIn n k b = padTo 4 (replicate 4 +0) (table k (λ i. padRow (vectorIn n b (modelPlace n i 1))))
+
+abbrev pub covariancesIn : ℕ → ℕ → List Float → List (List (List Float))
+covariancesIn n k b = padTo 4 (replicate 4 (replicate 4 +0)) (table k (λ i. pad (matrixIn n n b (modelPlace n i 1 + n))))
+
+abbrev pub likelihoodsIn : ℕ → ℕ → List Float → List Float
+likelihoodsIn n k b = padTo 4 +0 (table k (λ i. at (padRow (vectorIn 1 b (modelPlace n i 4))) 0))
 
 -- ---- what is placed there: the estimates of the first k models of B, each in its place; then the probabilities too
 unfoldable pub withEstimates : ℕ → ℕ → List Float → Bank → List Float

@@ -4,18 +4,14 @@
 ghost use mathlib.Core.Path.{_≡_};
 ghost use mathlib.Core.Bool.{true};
 ghost use mathlib.Core.List.{[]};
-ghost use Prim.Native.Nat.{_+_, _*_, _≤_};
-ghost use lib.ListN.{length, replicate};
-ghost use Rattle.scalar.specs.Number.{+0};
+ghost use Prim.Native.Nat.{_*_, _≤_};
+ghost use lib.ListN.{length};
 ghost use Rattle.answer.specs.Told.{given};
-ghost use Rattle.answer.specs.Table.{table, padTo};
-ghost use Rattle.algebra.specs.Matrix.{at};
-ghost use Rattle.algebra.specs.Array.{padRow, pad};
 ghost use Rattle.matrix.specs.Size.{count};
-ghost use Rattle.layout.specs.Layout.{vectorIn, matrixIn, modelLength};
+ghost use Rattle.layout.specs.Layout.{modelLength};
 ghost use Rattle.steps.specs.Step.{wellSized};
 ghost use Rattle.imm_steps.specs.Bank.{bankRows};
-ghost use Rattle.c_imm.specs.Bank.{modelPlace, probabilitiesPlace, isBank, isParts, withEstimates};
+ghost use Rattle.c_imm.specs.Bank.{modelPlace, probabilitiesPlace, isBank, isParts, statesIn, covariancesIn, likelihoodsIn, withEstimates};
 ghost use Rattle.c_imm.specs.Bank.{mixIn, probabilitiesIn, fusedIn, probabilityIn, newIn};
 use matrix::Size;
 use matrix::both;
@@ -62,7 +58,7 @@ fn is_bank(n: usize, m: usize, k: usize, len: usize) -> bool
 // ---- rows out of a slice, and back
 
 fn states_at(bank: &[f64], n: Size, k: Size) -> [[f64; 4]; 4]
-    ensures { λ x. ⌜ x ≡ padTo 4 (replicate 4 +0) (table (count k) (λ i. padRow (vectorIn (count n) (now (bank .entry)) (modelPlace (count n) i 1)))) ⌝ }
+    ensures { λ x. ⌜ x ≡ statesIn (count n) (count k) (now (bank .entry)) ⌝ }
 {
     let models = number(k);
     let states = number(n);
@@ -74,10 +70,7 @@ fn states_at(bank: &[f64], n: Size, k: Size) -> [[f64; 4]; 4]
 }
 
 fn covariances_at(bank: &[f64], n: Size, k: Size) -> [[[f64; 4]; 4]; 4]
-    ensures { λ p. ⌜
-        p
-        ≡ padTo 4 (replicate 4 (replicate 4 +0)) (table (count k)
-        (λ i. pad (matrixIn (count n) (count n) (now (bank .entry)) (modelPlace (count n) i 1 + count n)))) ⌝ }
+    ensures { λ p. ⌜ p ≡ covariancesIn (count n) (count k) (now (bank .entry)) ⌝ }
 {
     let models = number(k);
     let states = number(n);
@@ -89,7 +82,7 @@ fn covariances_at(bank: &[f64], n: Size, k: Size) -> [[[f64; 4]; 4]; 4]
 }
 
 fn likelihoods_at(bank: &[f64], n: Size, k: Size) -> [f64; 4]
-    ensures { λ l. ⌜ l ≡ padTo 4 +0 (table (count k) (λ i. at (padRow (vectorIn 1 (now (bank .entry)) (modelPlace (count n) i 4))) 0)) ⌝ }
+    ensures { λ l. ⌜ l ≡ likelihoodsIn (count n) (count k) (now (bank .entry)) ⌝ }
 {
     let models = number(k);
     let states = number(n);

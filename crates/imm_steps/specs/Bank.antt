@@ -10,7 +10,7 @@ use Rattle.algebra.specs.Array.{padRow, pad}
 use Rattle.matrix.specs.declared.Size.{Size}
 use Rattle.matrix.specs.Size.{count, front, part}
 use Rattle.filtering.specs.Filter.{estimate}
-use Rattle.mixing.specs.Mixing.{Bank, model}
+use Rattle.mixing.specs.Mixing.{Bank, model, mixEstimates}
 
 abbrev pub Rows : Type 0
 Rows = List (List Float)
@@ -26,6 +26,10 @@ bankRows n k x p L μ = record {
 -- the states, the covariances and the probabilities of a bank in such arrays, +0 outside
 abbrev pub rowsOf : Bank → Rows × (List Rows × List Float)
 rowsOf B = (table 4 (λ i. padRow (model B i .state)), (table 4 (λ i. pad (model B i .covariance)), padRow (B .probabilities)))
+
+-- what mixing by the transition t leaves in them
+abbrev pub mixedRows : Size → Size → Rows → Rows → List Rows → List Float → Rows × (List Rows × List Float)
+mixedRows n k t x p μ = rowsOf (mixEstimates (count n) (count k) (part k k t) (bankRows n k x p [] μ))
 
 -- row r, column c of model i's covariance and its spread, for the deviations d: the product is a sum of one term
 abbrev pub spreadCell : List Rows → Rows → ℕ → ℕ → ℕ → Float

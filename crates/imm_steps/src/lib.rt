@@ -12,8 +12,8 @@ ghost use Rattle.algebra.specs.Matrix.{at, row, cell, sumOf, vecSub};
 ghost use Rattle.algebra.specs.Array.{padRow, pad};
 ghost use Rattle.matrix.specs.Size.{count, front, part};
 ghost use Rattle.mixing.specs.Mixing.{uniform as uniformOf, predicted as predictedOf, weighted as weightedOf, mixedCovariance};
-ghost use Rattle.mixing.specs.Mixing.{mixEstimates, updateProbabilities};
-ghost use Rattle.imm_steps.specs.Bank.{bankRows, rowsOf, spreadCell};
+ghost use Rattle.mixing.specs.Mixing.{updateProbabilities};
+ghost use Rattle.imm_steps.specs.Bank.{bankRows, mixedRows, spreadCell};
 use matrix::Size;
 use matrix::kernel;
 use matrix::kernel::pick;
@@ -137,9 +137,7 @@ pub fn mix(
     p: &mut [[[f64; 4]; 4]; 4],
     mu: &mut [f64; 4],
 )
-    ensures { λ u. ⌜
-        (now (x .exit), (now (p .exit), now (mu .exit)))
-        ≡ rowsOf (mixEstimates (count n) (count k) (part k k (now (t .entry))) (bankRows n k (now (x .entry)) (now (p .entry)) [] (now (mu .entry)))) ⌝ }
+    ensures { λ u. ⌜ (now (x .exit), (now (p .exit), now (mu .exit))) ≡ mixedRows n k (now (t .entry)) (now (x .entry)) (now (p .entry)) (now (mu .entry)) ⌝ }
 {
     let c = predicted(t, *mu, k);
     let models = number(k);

@@ -7,7 +7,7 @@ use Rattle.matrix.specs.Size.{count}
 use Rattle.matrix.proofs.Sizes.{bounds}
 use Rattle.layout.specs.Layout.{modelLength}
 use Rattle.c_imm.specs.Bank.{modelPlace}
-use Rattle.c_imm.proofs.Banks.{Putting, putting-none, putting-more, putting-all}
+use Rattle.c_imm.proofs.Puts.{Putting, putting-none, putting-more, putting-all}
 use borrow.Author.Needs.{needs}
 use Rattle.c_imm.proofs.put_estimates.Statement.{statement}
 use Rattle.c_imm.proofs.put_estimates.Tie as tie
