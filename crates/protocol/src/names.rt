@@ -80,12 +80,22 @@ pub const KF_POSVEL: usize = 38;
 
 pub const KF_SEQ: usize = 39;
 
-pub const RTS_STORE: usize = 40;
+pub const IMM_NEW: usize = 40;
 
-pub const RTS_GET: usize = 41;
+pub const IMM_MIX: usize = 41;
 
-pub const RTS_SMOOTH: usize = 42;
+pub const IMM_PROBS: usize = 42;
 
-pub const RTS_STALE: usize = 43;
+pub const IMM_FUSED: usize = 43;
+
+pub const IMM_PROB: usize = 44;
+
+pub const RTS_STORE: usize = 45;
+
+pub const RTS_GET: usize = 46;
+
+pub const RTS_SMOOTH: usize = 47;
+
+pub const RTS_STALE: usize = 48;
 // Any other name.
-pub const OTHERS: usize = 44;
+pub const OTHERS: usize = 49;

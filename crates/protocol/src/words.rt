@@ -156,11 +156,11 @@ pub(crate) fn value_of(word: &[u8]) -> Value {
     finished(read(word, is_negative as usize, kind), is_negative)
 }
 
-// A word of a call is a whole number before all others, a number, or the letter of a step.
-fn is_of_call(v: Value, is_head: bool) -> bool {
+// A word of a call is a whole number, a number, or the letter of a step.
+fn is_of_call(v: Value) -> bool {
     let kind = v.kind;
     match kind {
-        WHOLE => is_head,
+        WHOLE => true,
         TEXT => (v.bits == P) | (v.bits == R) | (v.bits == U),
         _ => kind == NUMBER,
     }
@@ -185,13 +185,11 @@ pub fn read_values(line: &[u8], values: &mut [f64]) -> Reading
     let mut at = piece(line, 0, b' ').len();
     let mut count = 0;
     let mut is_call = true;
-    let mut is_head = true;
     let room = values.len();
     while at < line.len() {
         let word = piece(line, at + 1, b' ');
         let v = value_of(word);
-        is_call = is_call & is_of_call(v, is_head) & (count < room);
-        is_head = is_head & (v.kind == WHOLE);
+        is_call = is_call & is_of_call(v) & (count < room);
         count = put(values, count, from_bits(v.bits));
         at = at + 1 + word.len();
     }
