@@ -27,7 +27,7 @@ pub struct Duty {
 
 // The place of whole metres, within seven digits.
 pub fn place_of(metres: Whole) -> u32
-    ensures { λ r. ⌜ r ≡ placeOf (metres .below) (metres .size) ⌝ }
+    ensures { λ r. ⌜ (r ≡ placeOf (metres .below) (metres .size)) × (r ≤ 3000000000) ⌝ }
 {
     let centimetres = 100 * (metres.size % 10000000);
     if metres.below {
