@@ -189,7 +189,10 @@ pub fn information_from_information(
     xi0: &[f64],
     filter: &mut [f64],
 ) -> u8
-    ensures { λ t. ⌜ (t, now (filter .exit)) ≡ given (now (filter .entry)) (fromInformationIn n m i (length (now (filter .entry))) (now (a .entry)) (now (b .entry)) (now (h .entry)) (now (q .entry)) (now (r .entry)) (now (omega0 .entry)) (now (xi0 .entry))) ⌝ }
+    ensures { λ t. ⌜
+        (t, now (filter .exit))
+        ≡ given (now (filter .entry)) (fromInformationIn n m i (length (now (filter .entry))) (now (a .entry)) (now (b .entry)) (now (h .entry))
+        (now (q .entry)) (now (r .entry)) (now (omega0 .entry)) (now (xi0 .entry))) ⌝ }
 {
     c_filters::kalman_new(n, m, i, a, b, h, q, r, xi0, omega0, filter)
 }
@@ -209,7 +212,10 @@ pub fn information_new(
     p0: &[f64],
     filter: &mut [f64],
 ) -> u8
-    ensures { λ t. ⌜ (t, now (filter .exit)) ≡ given (now (filter .entry)) (newIn n m i (length (now (filter .entry))) (now (a .entry)) (now (b .entry)) (now (h .entry)) (now (q .entry)) (now (r .entry)) (now (x0 .entry)) (now (p0 .entry))) ⌝ }
+    ensures { λ t. ⌜
+        (t, now (filter .exit))
+        ≡ given (now (filter .entry)) (newIn n m i (length (now (filter .entry))) (now (a .entry)) (now (b .entry)) (now (h .entry)) (now (q .entry))
+        (now (r .entry)) (now (x0 .entry)) (now (p0 .entry))) ⌝ }
 {
     if is_parts(
         n,

@@ -181,8 +181,13 @@ fn put_model(
     s0: &[f64],
     filter: &mut [f64],
 )
-    requires { ⌜ isParts n m i (length (now filter)) (length (now a)) (length (now b)) (length (now h)) (length (now q)) (length (now «r_diag»)) (length (now x0)) (length (now s0)) ≡ true ⌝ }
-    ensures { λ u. ⌜ now (filter .exit) ≡ placed 0 (joined (now (a .entry) ∷ now (b .entry) ∷ now (h .entry) ∷ now (q .entry) ∷ now («r_diag» .entry) ∷ now (x0 .entry) ∷ [])) (now (filter .entry)) ⌝ }
+    requires { ⌜
+        isParts n m i (length (now filter)) (length (now a)) (length (now b)) (length (now h)) (length (now q)) (length (now «r_diag»)) (length (now x0)) (length (now s0))
+        ≡ true ⌝ }
+    ensures { λ u. ⌜
+        now (filter .exit)
+        ≡ placed 0 (joined (now (a .entry) ∷ now (b .entry) ∷ now (h .entry) ∷ now (q .entry) ∷ now («r_diag» .entry) ∷ now (x0 .entry) ∷ []))
+        (now (filter .entry)) ⌝ }
 {
     let to_b = a.len();
     let to_h = to_b + b.len();
@@ -211,7 +216,10 @@ pub fn sqrt_kalman_from_cholesky(
     s0: &[f64],
     filter: &mut [f64],
 ) -> u8
-    ensures { λ t. ⌜ (t, now (filter .exit)) ≡ given (now (filter .entry)) (fromCholeskyIn n m i (length (now (filter .entry))) (now (a .entry)) (now (b .entry)) (now (h .entry)) (now (q .entry)) (now («r_diag» .entry)) (now (x0 .entry)) (now (s0 .entry))) ⌝ }
+    ensures { λ t. ⌜
+        (t, now (filter .exit))
+        ≡ given (now (filter .entry)) (fromCholeskyIn n m i (length (now (filter .entry))) (now (a .entry)) (now (b .entry)) (now (h .entry))
+        (now (q .entry)) (now («r_diag» .entry)) (now (x0 .entry)) (now (s0 .entry))) ⌝ }
 {
     if is_parts(
         n,
@@ -249,7 +257,10 @@ pub fn sqrt_kalman_new(
     p0: &[f64],
     filter: &mut [f64],
 ) -> u8
-    ensures { λ t. ⌜ (t, now (filter .exit)) ≡ given (now (filter .entry)) (newIn n m i (length (now (filter .entry))) (now (a .entry)) (now (b .entry)) (now (h .entry)) (now (q .entry)) (now («r_diag» .entry)) (now (x0 .entry)) (now (p0 .entry))) ⌝ }
+    ensures { λ t. ⌜
+        (t, now (filter .exit))
+        ≡ given (now (filter .entry)) (newIn n m i (length (now (filter .entry))) (now (a .entry)) (now (b .entry)) (now (h .entry)) (now (q .entry))
+        (now («r_diag» .entry)) (now (x0 .entry)) (now (p0 .entry))) ⌝ }
 {
     if is_parts(
         n,

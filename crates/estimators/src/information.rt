@@ -82,7 +82,10 @@ pub extern "C" fn information_from_information(
     xi0: &[f64],
     filter: &mut [f64],
 ) -> u8
-    ensures { λ t. ⌜ (t, now (filter .exit)) ≡ given (now (filter .entry)) (fromInformationIn n m i (length (now (filter .entry))) (now (a .entry)) (now (b .entry)) (now (h .entry)) (now (q .entry)) (now (r .entry)) (now (omega0 .entry)) (now (xi0 .entry))) ⌝ }
+    ensures { λ t. ⌜
+        (t, now (filter .exit))
+        ≡ given (now (filter .entry)) (fromInformationIn n m i (length (now (filter .entry))) (now (a .entry)) (now (b .entry)) (now (h .entry))
+        (now (q .entry)) (now (r .entry)) (now (omega0 .entry)) (now (xi0 .entry))) ⌝ }
 {
     c_information::information_from_information(n, m, i, a, b, h, q, r, omega0, xi0, filter)
 }
@@ -103,7 +106,10 @@ pub extern "C" fn information_new(
     p0: &[f64],
     filter: &mut [f64],
 ) -> u8
-    ensures { λ t. ⌜ (t, now (filter .exit)) ≡ given (now (filter .entry)) (newIn n m i (length (now (filter .entry))) (now (a .entry)) (now (b .entry)) (now (h .entry)) (now (q .entry)) (now (r .entry)) (now (x0 .entry)) (now (p0 .entry))) ⌝ }
+    ensures { λ t. ⌜
+        (t, now (filter .exit))
+        ≡ given (now (filter .entry)) (newIn n m i (length (now (filter .entry))) (now (a .entry)) (now (b .entry)) (now (h .entry)) (now (q .entry))
+        (now (r .entry)) (now (x0 .entry)) (now (p0 .entry))) ⌝ }
 {
     c_information::information_new(n, m, i, a, b, h, q, r, x0, p0, filter)
 }

@@ -67,7 +67,10 @@ pub extern "C" fn sqrt_kalman_from_cholesky(
     s0: &[f64],
     filter: &mut [f64],
 ) -> u8
-    ensures { λ t. ⌜ (t, now (filter .exit)) ≡ given (now (filter .entry)) (fromCholeskyIn n m i (length (now (filter .entry))) (now (a .entry)) (now (b .entry)) (now (h .entry)) (now (q .entry)) (now («r_diag» .entry)) (now (x0 .entry)) (now (s0 .entry))) ⌝ }
+    ensures { λ t. ⌜
+        (t, now (filter .exit))
+        ≡ given (now (filter .entry)) (fromCholeskyIn n m i (length (now (filter .entry))) (now (a .entry)) (now (b .entry)) (now (h .entry))
+        (now (q .entry)) (now («r_diag» .entry)) (now (x0 .entry)) (now (s0 .entry))) ⌝ }
 {
     c_sqrt_kalman::sqrt_kalman_from_cholesky(n, m, i, a, b, h, q, r_diag, x0, s0, filter)
 }
@@ -87,7 +90,10 @@ pub extern "C" fn sqrt_kalman_new(
     p0: &[f64],
     filter: &mut [f64],
 ) -> u8
-    ensures { λ t. ⌜ (t, now (filter .exit)) ≡ given (now (filter .entry)) (newIn n m i (length (now (filter .entry))) (now (a .entry)) (now (b .entry)) (now (h .entry)) (now (q .entry)) (now («r_diag» .entry)) (now (x0 .entry)) (now (p0 .entry))) ⌝ }
+    ensures { λ t. ⌜
+        (t, now (filter .exit))
+        ≡ given (now (filter .entry)) (newIn n m i (length (now (filter .entry))) (now (a .entry)) (now (b .entry)) (now (h .entry)) (now (q .entry))
+        (now («r_diag» .entry)) (now (x0 .entry)) (now (p0 .entry))) ⌝ }
 {
     c_sqrt_kalman::sqrt_kalman_new(n, m, i, a, b, h, q, r_diag, x0, p0, filter)
 }

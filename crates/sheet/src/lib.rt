@@ -89,7 +89,9 @@ fn put_report(sheet: &[u8], output: &mut [u8]) -> usize
 // The report of a sheet: its bytes stand at the start of the output, and the rest of the output stays. An output of fewer than
 // 1,600 bytes, 64 lines of 25, is refused with 1 and unchanged.
 pub fn report(sheet: &[u8], output: &mut [u8]) -> Reported
-    ensures { λ r. ⌜ (r ≡ reportTold (reportOf (now (sheet .entry))) (now (output .entry))) × (now (output .exit) ≡ reportLeft (reportOf (now (sheet .entry))) (now (output .entry))) ⌝ }
+    ensures { λ r. ⌜
+        (r ≡ reportTold (reportOf (now (sheet .entry))) (now (output .entry)))
+        × (now (output .exit) ≡ reportLeft (reportOf (now (sheet .entry))) (now (output .entry))) ⌝ }
 {
     if output.len() < 1600 {
         return Reported::Refused(1);
