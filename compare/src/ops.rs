@@ -6,12 +6,13 @@ pub enum Family {
     Scalar,
     Matrix,
     Kalman,
+    Information,
     SqrtKalman,
     Imm,
     RtsSmoother,
 }
 
-use Family::{Imm, Kalman, Matrix, RtsSmoother, Scalar, SqrtKalman};
+use Family::{Imm, Information, Kalman, Matrix, RtsSmoother, Scalar, SqrtKalman};
 
 /// Every call, in the order of PROTOCOL.md.
 pub const OPS: &[(&str, Family)] = &[
@@ -55,6 +56,15 @@ pub const OPS: &[(&str, Family)] = &[
     ("kf_reset", Kalman),
     ("kf_posvel", Kalman),
     ("kf_seq", Kalman),
+    ("if_new", Information),
+    ("if_from_information", Information),
+    ("if_predict", Information),
+    ("if_update", Information),
+    ("if_state", Information),
+    ("if_cov", Information),
+    ("if_reset", Information),
+    ("if_fuse", Information),
+    ("if_seq", Information),
     ("sq_new", SqrtKalman),
     ("sq_from_cholesky", SqrtKalman),
     ("sq_predict", SqrtKalman),
@@ -77,6 +87,7 @@ pub const OPS: &[(&str, Family)] = &[
 pub fn refusals(op: &str) -> &'static [u8] {
     match op {
         "inv" | "kf_update" | "kf_seq" => &[3],
+        "if_new" | "if_predict" | "if_update" | "if_state" | "if_cov" | "if_reset" | "if_seq" => &[3],
         "cholesky" | "sq_new" | "sq_predict" | "sq_reset" => &[4],
         "sq_update" | "sq_seq" => &[3, 4],
         "rts_store" => &[5],
@@ -87,7 +98,7 @@ pub fn refusals(op: &str) -> &'static [u8] {
 }
 
 /// Calls of PROTOCOL.md that no driver answers: modules that are not ported.
-const NOT_PORTED: &[&str] = &["if_", "imm_update_all", "fis_"];
+const NOT_PORTED: &[&str] = &["imm_update_all", "fis_"];
 
 /// The module of the call `op`, or what both drivers say instead.
 pub fn family(op: &[u8]) -> Result<Family, &'static str> {

@@ -244,6 +244,7 @@ macro_rules! driver {
                 Family::Kalman => kalman::call(op, words, answer),
                 Family::Imm => imm::call(op, words, answer),
                 Family::SqrtKalman => sqrt_kalman::call(op, words, answer),
+                Family::Information => information_filter::call(op, words, answer),
                 Family::RtsSmoother => rts_smoother::call(op, words, answer),
             }
         }

@@ -3,6 +3,7 @@
 
 use crate::draw::{Draw, Style, LIMIT, SPECIAL};
 use crate::imm;
+use crate::information_filter;
 use crate::kalman::{good, refusing, sequence, styled as styled_filter, Model};
 use crate::matrix::styled;
 use crate::rts_smoother::{good_slots, predict, with_slots};
@@ -330,6 +331,7 @@ pub fn calls() -> Vec<Call> {
     calls.extend(factors(&mut draw));
     calls.extend(filters(&mut draw));
     calls.extend(imm::edges(&mut draw));
+    calls.extend(information_filter::edges(&mut Draw::new(1, 0)));
     for (n, rooms) in [(1, vec![1, 2, 3, 8, 64]), (2, vec![1, 2, 3, 8]), (3, vec![1, 3]), (4, vec![2, 3])] {
         for room in rooms {
             calls.extend(smoothers(&mut draw, n, room));

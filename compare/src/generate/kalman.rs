@@ -107,7 +107,7 @@ pub fn refusing(draw: &mut Draw, n: usize, m: usize, i: usize) -> Model {
     model
 }
 
-fn hard(draw: &mut Draw, n: usize, m: usize, i: usize) -> Model {
+pub fn hard(draw: &mut Draw, n: usize, m: usize, i: usize) -> Model {
     let mut model = good(draw, n, m, i);
     match draw.below(12) {
         0..=3 => (),
@@ -137,7 +137,7 @@ fn hard(draw: &mut Draw, n: usize, m: usize, i: usize) -> Model {
 }
 
 /// A vector for a filter: mostly ordinary.
-fn vector(draw: &mut Draw, count: usize) -> Vec<f64> {
+pub fn vector(draw: &mut Draw, count: usize) -> Vec<f64> {
     let style = match draw.below(4) {
         0 => draw.style(),
         1 => Style::Whole,
@@ -146,7 +146,7 @@ fn vector(draw: &mut Draw, count: usize) -> Vec<f64> {
     draw.numbers(style, count)
 }
 
-fn covariance(draw: &mut Draw, n: usize) -> Vec<f64> {
+pub fn covariance(draw: &mut Draw, n: usize) -> Vec<f64> {
     match draw.below(4) {
         0 => shapes::any(draw, n),
         1 => shapes::flat(draw, n),

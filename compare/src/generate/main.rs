@@ -5,6 +5,7 @@
 mod draw;
 mod edge;
 mod imm;
+mod information_filter;
 mod kalman;
 mod matrix;
 mod rts_smoother;
@@ -19,13 +20,14 @@ use std::io::{self, BufWriter, Write};
 use text::Call;
 
 /// How many of 100 calls each module gets.
-const SHARES: [(Family, u64); 6] = [
+const SHARES: [(Family, u64); 7] = [
     (Family::Scalar, 8),
-    (Family::Matrix, 28),
-    (Family::Kalman, 20),
-    (Family::SqrtKalman, 20),
+    (Family::Matrix, 24),
+    (Family::Kalman, 15),
+    (Family::Information, 15),
+    (Family::SqrtKalman, 15),
     (Family::Imm, 9),
-    (Family::RtsSmoother, 15),
+    (Family::RtsSmoother, 14),
 ];
 
 /// Call k of a seed. A short one keeps off the smoother's room of 64 slots.
@@ -37,6 +39,7 @@ fn call(seed: u64, k: u64, short: bool) -> Call {
         Family::Kalman => kalman::call(&mut draw),
         Family::Imm => imm::call(&mut draw),
         Family::SqrtKalman => sqrt_kalman::call(&mut draw),
+        Family::Information => information_filter::call(&mut draw),
         Family::RtsSmoother => rts_smoother::call(&mut draw, short),
     }
 }

@@ -2,6 +2,7 @@
 
 mod entries;
 mod imm;
+mod information_filter;
 mod kalman;
 mod lent;
 mod matrix;

@@ -124,6 +124,18 @@ pub fn rows() -> Vec<Row> {
         row!(sqrt_kalman_state(n = 2, m = 3, i = 1) (n) (m) (i) [root(n, m, i)] [n]),
         row!(sqrt_kalman_cholesky_factor(n = 2, m = 3, i = 1) (n) (m) (i) [root(n, m, i)] [n * n]),
         row!(sqrt_kalman_covariance(n = 2, m = 3, i = 1) (n) (m) (i) [root(n, m, i)] [n * n]),
+        row!(information_new(n = 2, m = 3, i = 1) (n) (m) (i)
+            [n * n] [n * i] [m * n] [n * n] [m * m] [n] [n * n] [filter(n, m, i)]),
+        row!(information_from_information(n = 2, m = 3, i = 1) (n) (m) (i)
+            [n * n] [n * i] [m * n] [n * n] [m * m] [n * n] [n] [filter(n, m, i)]),
+        row!(information_predict(n = 4, m = 2, i = 3) (n) (m) (i) [filter(n, m, i)] [i]),
+        row!(information_update(n = 4, m = 2, i = 2) (n) (m) (i) [filter(n, m, i)] [m] [m]),
+        row!(information_fuse_sensor(n = 4, m = 2, i = 1) (n) (m) (i) [filter(n, m, i)] [m * n] [m * m] [m]),
+        row!(information_reset(n = 2, m = 3, i = 1) (n) (m) (i) [filter(n, m, i)] [n] [n * n]),
+        row!(information_state(n = 2, m = 3, i = 1) (n) (m) (i) [filter(n, m, i)] [n]),
+        row!(information_covariance(n = 2, m = 3, i = 1) (n) (m) (i) [filter(n, m, i)] [n * n]),
+        row!(information_matrix(n = 2, m = 3, i = 1) (n) (m) (i) [filter(n, m, i)] [n * n]),
+        row!(information_vector(n = 2, m = 3, i = 1) (n) (m) (i) [filter(n, m, i)] [n]),
         row!(rts_smoother_store_forward(n = 2, room = 3, count = 1) (n) (room) {count as u64}
             [room * 2 * pair(n)] [pair(n)] [pair(n)]),
         row!(rts_smoother_get_state(n = 2, room = 3, count = 1) (n) (room) (count)

@@ -2,6 +2,7 @@
 //! byte for byte; `build` makes it.
 
 mod imm;
+mod information_filter;
 mod kalman;
 mod matrix;
 mod rts_smoother;
