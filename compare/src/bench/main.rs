@@ -5,6 +5,7 @@
 #[path = "../port_side/entries.rs"]
 mod entries;
 mod imm;
+mod information;
 mod library;
 mod port;
 mod rust;
@@ -213,6 +214,8 @@ fn main() {
     imm::mixing::<4>();
     sqrt_kalman::rows::<2, 1, 1>();
     sqrt_kalman::rows::<4, 2, 2>();
+    information::filter::<2, 1, 1>();
+    information::filter::<4, 2, 2>();
     smooth::<2>("smooth", 64);
     smooth::<4>("smooth", 64);
     for count in [8, 16, 32, 64] {
