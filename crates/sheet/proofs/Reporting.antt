@@ -1,5 +1,5 @@
 -- The report of a sheet by what the code holds of it, step after step. Assumes nothing.
-use mathlib.Core.Path.{_≡_, refl, sym, ap, _∙_}
+use mathlib.Core.Path.{_≡_, refl, sym, ap, _∙_, subst}
 use mathlib.Core.Bool.{Bool, true, false, cond}
 use mathlib.Core.List.{List, [], _∷_, _++_, map}
 use mathlib.Core.Option.{Option, none, some}
@@ -13,6 +13,8 @@ use lib.ListN.{length, take, drop, getD, set, replicate, length-map, take-append
 use lib.Seq.{sets, sets-eq, take-at, take-suc, take-suc-set}
 use borrow.Author.Tests.{lt-ltb, le-ltb}
 use Rattle.answer.specs.Table.{padTo}
+use Rattle.answer.specs.Answer.{answered, refused as refusedWith}
+use Rattle.answer.specs.Told.{given as placed}
 use Rattle.scalar.specs.Number.{+0}
 use Rattle.tracking.specs.Track.{Smoothed, Tracked, rejected, tracked, track}
 use Rattle.tracking.proofs.Laws.{tracks}
@@ -35,8 +37,9 @@ use Rattle.tracker.specs.declared.Settings.{Settings}
 use Rattle.tracker.specs.declared.Positions.{Positions}
 use Rattle.tracker.specs.declared.Reading as Taken
 use Rattle.sheet.specs.Held.{noMark, marksHeld, Stored}
-use Rattle.sheet.specs.Call.{settingsHeld, floatReading, reportTold, reportLeft}
+use Rattle.sheet.specs.Call.{settingsHeld, floatReading, reportTold, reportLeft, isSmall, reportIn}
 use Rattle.sheet.specs.declared.stages.Marks.{Marks}
+use Rattle.sheet.specs.declared.Reported.{Reported}
 use Rattle.sheet.specs.declared.Reported.the-variants.{Written, Refused}
 
 -- ---- lists in arrays
@@ -198,3 +201,22 @@ written-fits s d n e = go (isSmall d) e
     go : (b : Bool) → cond b (Refused 1) (Written (length (report s))) ≡ Written n → n ≤ 1600
     go true h = let z : _≡_ {A = ℕ} 0 1 = cc in absurd (omega arith)
     go false h = let z : length (report s) ≡ n = cc in subst (λ (m : ℕ). m ≤ 1600) z (reports .room s)
+
+-- ---- the call with a place for the count
+
+module _ (t d : List ℕ) (w : ℕ) (r : Reported) (p : r ≡ reportTold t d) where
+  pub count-refused : (n : ℕ) → r ≡ Refused n → (n, (w, reportLeft t d)) ≡ placed {A = ℕ × List ℕ} (w, d) (reportIn t d)
+  count-refused n e = go (isSmall d) (sym e ∙ p)
+    where
+      go : (b : Bool) → Refused n ≡ cond b (Refused 1) (Written (length t))
+          → (n, (w, cond b d (t ++ drop (length t) d))) ≡ placed {A = ℕ × List ℕ} (w, d) (cond b (refusedWith 1) (answered (length t, t ++ drop (length t) d)))
+      go true h = let z : n ≡ 1 = cc in rw z
+      go false h = let z : _≡_ {A = ℕ} 0 1 = cc in absurd (omega arith)
+
+  pub count-written : (n : ℕ) → r ≡ Written n → (0, (n, reportLeft t d)) ≡ placed {A = ℕ × List ℕ} (w, d) (reportIn t d)
+  count-written n e = go (isSmall d) (sym e ∙ p)
+    where
+      go : (b : Bool) → Written n ≡ cond b (Refused 1) (Written (length t))
+          → (0, (n, cond b d (t ++ drop (length t) d))) ≡ placed {A = ℕ × List ℕ} (w, d) (cond b (refusedWith 1) (answered (length t, t ++ drop (length t) d)))
+      go true h = let z : _≡_ {A = ℕ} 0 1 = cc in absurd (omega arith)
+      go false h = let z : n ≡ length t = cc in rw z

@@ -5,6 +5,7 @@ use Prim.Native.Nat.{ℕ}
 use lib.Dec.{ltb}
 use lib.IntN.{pos}
 use lib.ListN.{length, drop}
+use Rattle.answer.specs.Answer.{Answer, refused, answered}
 use Rattle.sheets.specs.Report.{floatOf}
 use Rattle.sheet_text.specs.Held.{numberOf}
 use Rattle.sheet_reader.specs.declared.Reading as Read
@@ -30,3 +31,7 @@ reportTold text d = cond (isSmall d) (Refused 1) (Written (length text))
 -- the text at its start, and the rest as it was
 abbrev pub reportLeft : List ℕ → List ℕ → List ℕ
 reportLeft text d = cond (isSmall d) d (text ++ drop (length text) d)
+
+-- the same as an answer: how many bytes are the report, and the output then; or refused with 1
+abbrev pub reportIn : List ℕ → List ℕ → Answer (ℕ × List ℕ)
+reportIn text d = cond (isSmall d) (refused 1) (answered (length text, text ++ drop (length text) d))

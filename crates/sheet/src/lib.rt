@@ -3,9 +3,10 @@ ghost use mathlib.Core.Path.{_≡_};
 ghost use mathlib.Core.List.{map};
 ghost use Prim.Native.Nat.{_≤_};
 ghost use lib.ListN.{length, take};
+ghost use Rattle.answer.specs.Told.{given};
 ghost use Rattle.sheets.specs.Report.{report as reportOf};
 ghost use Rattle.sheet.specs.Held.{Stored};
-ghost use Rattle.sheet.specs.Call.{settingsHeld, floatReading, reportTold, reportLeft};
+ghost use Rattle.sheet.specs.Call.{settingsHeld, floatReading, reportTold, reportLeft, reportIn};
 use printing::put_lines;
 use printing::put_refusal;
 use sheet_reader::read_sheet;
@@ -98,4 +99,18 @@ pub fn report(sheet: &[u8], output: &mut [u8]) -> Reported
     }
     let n = put_report(sheet, output);
     Reported::Written(n)
+}
+
+// The same with a lent place for the number of bytes: 0 and the number written there; or 1, and everything unchanged.
+pub fn sheet_report(sheet: &[u8], output: &mut [u8], written: &mut usize) -> u8
+    ensures { λ t. ⌜ (t, (now (written .exit), now (output .exit))) ≡ given (now (written .entry), now (output .entry)) (reportIn (reportOf (now (sheet .entry))) (now (output .entry))) ⌝ }
+{
+    let told = report(sheet, output);
+    match told {
+        Reported::Refused(number) => number,
+        Reported::Written(count) => {
+            *written = count;
+            0
+        }
+    }
 }
