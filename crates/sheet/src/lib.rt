@@ -16,6 +16,7 @@ use tracker::Settings;
 use tracker::track;
 
 mod printing;
+pub mod seen;
 mod stages;
 
 // How many bytes of the output are the report, or the refusal of an output that is too small.
