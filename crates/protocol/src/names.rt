@@ -80,22 +80,36 @@ pub const KF_POSVEL: usize = 38;
 
 pub const KF_SEQ: usize = 39;
 
-pub const IMM_NEW: usize = 40;
+pub const SQ_NEW: usize = 40;
 
-pub const IMM_MIX: usize = 41;
+pub const SQ_FROM_CHOLESKY: usize = 41;
 
-pub const IMM_PROBS: usize = 42;
+pub const SQ_PREDICT: usize = 42;
 
-pub const IMM_FUSED: usize = 43;
+pub const SQ_UPDATE: usize = 43;
 
-pub const IMM_PROB: usize = 44;
+pub const SQ_COV: usize = 44;
 
-pub const RTS_STORE: usize = 45;
+pub const SQ_RESET: usize = 45;
 
-pub const RTS_GET: usize = 46;
+pub const SQ_SEQ: usize = 46;
 
-pub const RTS_SMOOTH: usize = 47;
+pub const IMM_NEW: usize = 47;
 
-pub const RTS_STALE: usize = 48;
+pub const IMM_MIX: usize = 48;
+
+pub const IMM_PROBS: usize = 49;
+
+pub const IMM_FUSED: usize = 50;
+
+pub const IMM_PROB: usize = 51;
+
+pub const RTS_STORE: usize = 52;
+
+pub const RTS_GET: usize = 53;
+
+pub const RTS_SMOOTH: usize = 54;
+
+pub const RTS_STALE: usize = 55;
 // Any other name.
-pub const OTHERS: usize = 49;
+pub const OTHERS: usize = 56;

@@ -14,7 +14,9 @@ pub(crate) const WHOLE: u8 = 2;
 
 pub(crate) const TEXT: u8 = 3;
 
-// The letters of steps: predict, reset, update.
+// The letters of steps: covariance, predict, reset, update.
+pub const C: u64 = 67;
+
 pub const P: u64 = 80;
 
 pub const R: u64 = 82;
@@ -161,7 +163,7 @@ fn is_of_call(v: Value) -> bool {
     let kind = v.kind;
     match kind {
         WHOLE => true,
-        TEXT => (v.bits == P) | (v.bits == R) | (v.bits == U),
+        TEXT => (v.bits == C) | (v.bits == P) | (v.bits == R) | (v.bits == U),
         _ => kind == NUMBER,
     }
 }

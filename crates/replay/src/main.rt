@@ -21,6 +21,9 @@ fn place_of(op: usize, v: &[f64], given: &[u8]) -> usize {
     if op <= names::KF_SEQ {
         return replay_filters::place_of(op, v, given, 0);
     }
+    if op <= names::SQ_SEQ {
+        return replay_sqrt::place_of(op, v, given, 0);
+    }
     if op <= names::IMM_PROB {
         return replay_imm::place_of(op, v, given, 0);
     }
@@ -85,7 +88,8 @@ fn replay_input(list: &mut [u8]) {
         b"consts sqrt abs clamp_val saturate from_f64 to_f64 from_int pid_abs clamp_pid zeros default filled \
         identity transpose add_mat sub_mat eq scale neg frob_norm trace get set matmul matvec outer vec_add \
         vec_sub vec_dot vec_scale vec_norm inv cholesky kf_new kf_predict kf_update kf_reset kf_posvel \
-        kf_seq imm_new imm_mix imm_probs imm_fused imm_prob rts_store rts_get rts_smooth rts_stale others";
+        kf_seq sq_new sq_from_cholesky sq_predict sq_update sq_cov sq_reset sq_seq imm_new imm_mix imm_probs \
+        imm_fused imm_prob rts_store rts_get rts_smooth rts_stale others";
     let length = io::read_full(STDIN_FILENO, list);
     replay(&list[0..length], names, &mut tally);
     tally::report(names, &tally);
