@@ -104,7 +104,9 @@ pub fn report(sheet: &[u8], output: &mut [u8]) -> Reported
 
 // The same with a lent place for the number of bytes: 0 and the number written there; or 1, and everything unchanged.
 pub fn sheet_report(sheet: &[u8], output: &mut [u8], written: &mut usize) -> u8
-    ensures { λ t. ⌜ (t, (now (written .exit), now (output .exit))) ≡ given (now (written .entry), now (output .entry)) (reportIn (reportOf (now (sheet .entry))) (now (output .entry))) ⌝ }
+    ensures { λ t. ⌜
+        (t, (now (written .exit), now (output .exit)))
+        ≡ given (now (written .entry), now (output .entry)) (reportIn (reportOf (now (sheet .entry))) (now (output .entry))) ⌝ }
 {
     let told = report(sheet, output);
     match told {

@@ -16,7 +16,8 @@ use tracker::track;
 
 // The positions of a sheet's readings, filtered and smoothed.
 pub fn positions_of(sheet: SheetRead) -> Positions
-    ensures { λ r. ⌜ r ≡ trackIn (settingsHeld (sheet .step) (sheet .process) (sheet .measurement)) (map floatReading (take 64 (sheet .readings))) (sheet .count) ⌝ }
+    ensures { λ r. ⌜
+        r ≡ trackIn (settingsHeld (sheet .step) (sheet .process) (sheet .measurement)) (map floatReading (take 64 (sheet .readings))) (sheet .count) ⌝ }
 {
     let readings = sheet.readings;
     let x = readings_of(readings, 64);
