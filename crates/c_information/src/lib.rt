@@ -10,6 +10,7 @@ use answer::Status;
 use c_filters::is_filter;
 use c_filters::is_parts;
 use c_filters::is_step;
+use information_steps::update_by;
 use matrix::both;
 use matrix::size_of;
 
@@ -72,15 +73,7 @@ pub fn information_update(
                 let v = layout::vector_at(z, 0, sm);
                 let mut xi = layout::vector_at(filter, from, sn);
                 let mut omega = layout::matrix_at(filter, from + n, sn, sn);
-                let answer = information_steps::update_by(
-                    &h,
-                    &inverted,
-                    &v,
-                    sn,
-                    sm,
-                    &mut omega,
-                    &mut xi,
-                );
+                let answer = update_by(&h, &inverted, &v, sn, sm, &mut omega, &mut xi);
                 layout::put_pair(filter, from, xi, &omega, sn);
                 let status = answer.status;
                 match status {

@@ -182,8 +182,8 @@ fn put_model(
     filter: &mut [f64],
 )
     requires { ⌜
-        isParts n m i (length (now filter)) (length (now a)) (length (now b)) (length (now h)) (length (now q)) (length (now «r_diag»)) (length (now x0)) (length (now s0))
-        ≡ true ⌝ }
+        isParts n m i (length (now filter)) (length (now a)) (length (now b)) (length (now h)) (length (now q))
+        (length (now «r_diag»)) (length (now x0)) (length (now s0)) ≡ true ⌝ }
     ensures { λ u. ⌜
         now (filter .exit)
         ≡ placed 0 (joined (now (a .entry) ∷ now (b .entry) ∷ now (h .entry) ∷ now (q .entry) ∷ now («r_diag» .entry) ∷ now (x0 .entry) ∷ []))

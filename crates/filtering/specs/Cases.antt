@@ -78,7 +78,7 @@ pub record Cases : Type 0 where
   -- information: the new matrix is rejected, and keeps the addition; noise that cannot be inverted changes nothing
   pub information-added : Information.update (sensor ((n1 ∷ n0 ∷ []) ∷ []) (oneByOne n1)) (n3 ∷ []) (omega (twoByTwo n0 n0 n0 n0) (n0 ∷ n0 ∷ []))
       ≡ record { told = refused 3; left = this (omega (twoByTwo n1 n0 n0 n0) (n3 ∷ n0 ∷ [])) }
-  pub information-noise : Information.update (sensor ((n1 ∷ n0 ∷ []) ∷ []) (oneByOne n0)) (n3 ∷ []) (omega (twoByTwo n1 n0 n0 n1) (n0 ∷ n0 ∷ []))
+  pub information-noise : Information.update (sensor ((n1 ∷ n0 ∷ []) ∷ []) (oneByOne n0)) (n3 ∷ []) (omega (twoByTwo n0 n0 n0 n0) (n0 ∷ n0 ∷ []))
       ≡ record { told = refused 3; left = unchanged }
   -- the innovation is from the state after: 4 less 2, where the state before it was 0
   pub information-after : Information.update (record { n = 1; m = 1; h = oneByOne n1; r = oneByOne n1 }) (n4 ∷ []) (omega (oneByOne n1) (n0 ∷ []))
