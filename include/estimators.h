@@ -6,7 +6,7 @@
  * Numbers are IEEE 754 doubles and may hold any bits. A matrix is its cells by rows, used sizes only: R x C is
  * R * C doubles. Sizes are 1 to 4, a smoother's room is 1 to 64 slots.
  *
- * A slice is a pointer and then how many doubles it holds. What no function can test is the caller's part: no pointer
+ * A slice is a pointer and then how many doubles (or bytes) it holds. What no function can test is the caller's part: no pointer
  * is NULL, not even one with a length of 0; behind it stand as many doubles as the length says, aligned, to be read
  * and, unless it is const, written; and what a call may write through one pointer, it reaches through no other.
  *
@@ -18,6 +18,7 @@
  *   4  a matrix that has no Cholesky factor
  *   5  a smoother's buffer that is full
  *   6  a slot that is not stored
+ * The refusals of a depot sheet are lines of its report, and no numbers returned.
  */
 #ifndef ESTIMATORS_H
 #define ESTIMATORS_H
@@ -300,6 +301,21 @@ uint8_t rts_smoother_get_state(size_t n, size_t room, size_t count, const double
  * stored; with 3: a slot before the last has a predicted covariance that inversion rejects. */
 uint8_t rts_smoother_smooth(size_t n, size_t room, size_t count, const double *slots, size_t slots_len,
                             const double *transition, size_t transition_len, double *output, size_t output_len);
+
+/* ---- the depot sheet: a duty's sheet in bytes, its report in bytes
+ *
+ * Line 1 has five fields: step in seconds, process noise, measurement noise, stages, readings. Then a line for each stage, its
+ * end in metres, and a line for each reading, its kind (1, or 0 for none) and its metres. A field is a whole number right-justified
+ * in 8 bytes, and a line ends with one byte 0A. The report is a line for each reading: its number from 1, its smoothed position in
+ * whole metres, its stage; or one line with the number of a refusal (3, 7, 8 or 9) and the line of the sheet. A sheet may have any
+ * length and any bytes; what stands after its first 1,418 bytes plays no part.
+ */
+#define ESTIMATORS_SHEET 1418  /* the bytes of a sheet that play a part: the longest has 1,417 */
+#define ESTIMATORS_REPORT 1600 /* the bytes of the longest report: 64 lines of 25 */
+
+/* The report of a sheet at the start of out, and in *written how many bytes it has; what stands in out after it stays. Refused
+ * with 1: out_len is below ESTIMATORS_REPORT. Then neither out nor *written is changed. */
+uint8_t sheet_report(const uint8_t *sheet, size_t sheet_len, uint8_t *out, size_t out_len, size_t *written);
 
 #ifdef __cplusplus
 }
