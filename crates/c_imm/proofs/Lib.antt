@@ -1,3 +1,4 @@
 pub mod Banks
 pub mod Puts
 pub mod Steps
+pub mod Roads

@@ -43,6 +43,10 @@ isModel n m k l j = isBank n m k l && ltb j k
 unfoldable pub isParts : ℕ → ℕ → ℕ → ℕ → ℕ → ℕ → ℕ → ℕ → Bool
 isParts n m k l a t c r = isBank n m k l && ((eqb a (k * modelLength n) && eqb t (k * k)) && (eqb c (m * n) && eqb r (m * m)))
 
+-- two models of one road, two states each
+unfoldable pub isRoads : ℕ → ℕ → ℕ → ℕ → Bool
+isRoads n m k l = (eqb n 2 && eqb k 2) && isBank n m k l
+
 -- ---- what the slice b holds
 abbrev pub estimateAt : ℕ → List Float → ℕ → Estimate
 estimateAt n b i = estimate (vectorAt n b (modelPlace n i 1)) (matrixAt n n b (modelPlace n i 2))
@@ -67,6 +71,10 @@ covariancesIn n k b = padTo 4 (replicate 4 (replicate 4 +0)) (table k (λ i. pad
 abbrev pub likelihoodsIn : ℕ → ℕ → List Float → List Float
 likelihoodsIn n k b = padTo 4 +0 (table k (λ i. at (padRow (vectorIn 1 b (modelPlace n i 4))) 0))
 
+-- the estimates and the transition of two models of one road
+abbrev pub roadsIn : List Float → Estimate × (Estimate × Matrix)
+roadsIn b = (estimateAt 2 b 0, (estimateAt 2 b 1, matrixAt 2 2 b 30))
+
 -- ---- what is placed there: the estimates of the first k models of B, each in its place; then the probabilities too
 unfoldable pub withEstimates : ℕ → ℕ → List Float → Bank → List Float
 withEstimates n zero b B = b
@@ -78,9 +86,13 @@ withProbabilities n m k b B = placed (probabilitiesPlace n m k) (B .probabilitie
 abbrev pub withBank : ℕ → ℕ → ℕ → List Float → Bank → List Float
 withBank n m k b B = withProbabilities n m k (withEstimates n k b B) B
 
+-- the bank mixed
+abbrev pub mixedIn : ℕ → ℕ → ℕ → List Float → Bank
+mixedIn n m k b = mixEstimates n k (transitionAt n m k b) (bankAt n m k b)
+
 -- ---- the calls: 1 where a size or a length does not fit
 abbrev pub mixIn : ℕ → ℕ → ℕ → List Float → ℕ × List Float
-mixIn n m k b = handed numberOf (withBank n m k b) b (into (where-sized (isBank n m k (length b)) (mixEstimates n k (transitionAt n m k b) (bankAt n m k b))))
+mixIn n m k b = handed numberOf (withBank n m k b) b (into (where-sized (isBank n m k (length b)) (mixedIn n m k b)))
 
 abbrev pub probabilitiesIn : ℕ → ℕ → ℕ → List Float → ℕ × List Float
 probabilitiesIn n m k b = handed numberOf (withProbabilities n m k b) b (into (where-sized (isBank n m k (length b)) (updateProbabilities k (bankAt n m k b))))

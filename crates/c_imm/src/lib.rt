@@ -3,20 +3,30 @@
 // needs as rows, once, and writes it back, once; the other calls copy. Refused with 1: a size, or a slice of another length.
 ghost use mathlib.Core.Path.{_≡_};
 ghost use mathlib.Core.Bool.{true};
-ghost use mathlib.Core.List.{[]};
-ghost use Prim.Native.Nat.{_*_, _≤_};
+ghost use mathlib.Core.List.{[], _++_};
+ghost use Prim.Native.Nat.{_+_, _*_, _≤_};
 ghost use lib.ListN.{length};
 ghost use Rattle.answer.specs.Told.{given};
 ghost use Rattle.matrix.specs.Size.{count};
-ghost use Rattle.layout.specs.Layout.{modelLength};
+ghost use Rattle.layout.specs.Layout.{joined, placed, total, modelLength, bankParts};
 ghost use Rattle.steps.specs.Step.{wellSized};
+ghost use Rattle.steps.specs.Road.{matrixOf, estimateOf};
 ghost use Rattle.imm_steps.specs.Bank.{bankRows};
-ghost use Rattle.c_imm.specs.Bank.{modelPlace, probabilitiesPlace, isBank, isParts, statesIn, covariancesIn, likelihoodsIn, withEstimates};
+ghost use Rattle.c_imm.specs.Bank.{modelPlace, probabilitiesPlace, isBank, isParts, isRoads, statesIn, covariancesIn, likelihoodsIn, roadsIn, withEstimates, withBank, mixedIn};
 ghost use Rattle.c_imm.specs.Bank.{mixIn, probabilitiesIn, fusedIn, probabilityIn, newIn};
 use matrix::Size;
 use matrix::both;
 use matrix::number;
 use matrix::size_of;
+use steps::road::Pair;
+use steps::road::Two;
+
+// Two models of one road: their estimates, and the transition.
+struct RoadBank {
+    first: Pair,
+    second: Pair,
+    transition: Two,
+}
 
 // ---- sizes and places
 
@@ -113,10 +123,83 @@ fn put_estimates<'a>(
     }
 }
 
+// ---- two models of one road: two states each, read where their numbers stand
+
+// The sizes of such a bank of len numbers.
+fn is_roads(n: usize, m: usize, k: usize, len: usize) -> bool
+    ensures { λ t. ⌜ t ≡ isRoads n m k len ⌝ }
+{
+    both(both(n == 2, k == 2), is_bank(n, m, k, len))
+}
+
+fn roads_at(b: &[f64]) -> RoadBank
+    requires { ⌜ 34 ≤ length (now b) ⌝ }
+    ensures { λ r. ⌜ (estimateOf (r .first), (estimateOf (r .second), matrixOf (r .transition))) ≡ roadsIn (now (b .entry)) ⌝ }
+{
+    let p = Two {
+        a: b[6],
+        b: b[7],
+        c: b[8],
+        d: b[9],
+    };
+    let q = Two {
+        a: b[21],
+        b: b[22],
+        c: b[23],
+        d: b[24],
+    };
+    let transition = Two {
+        a: b[30],
+        b: b[31],
+        c: b[32],
+        d: b[33],
+    };
+    let first = Pair {
+        x0: b[4],
+        x1: b[5],
+        p,
+    };
+    let second = Pair {
+        x0: b[19],
+        x1: b[20],
+        p: q,
+    };
+    RoadBank {
+        first,
+        second,
+        transition,
+    }
+}
+
+// A pair into its place.
+fn put_road(b: &mut [f64], k: usize, e: Pair)
+    requires { ⌜ k + 6 ≤ length (now b) ⌝ }
+    ensures { λ u. ⌜ now (b .exit) ≡ placed k (estimateOf e .state ++ joined (estimateOf e .covariance)) (now (b .entry)) ⌝ }
+{
+    let p = e.p;
+    let numbers = [e.x0, e.x1, p.a, p.b, p.c, p.d];
+    layout::put_slice(b, k, &numbers[..]);
+}
+
+fn mix_roads(m: usize, bank: &mut [f64])
+    requires { ⌜ length (now bank) ≡ total (bankParts 2 m 2) ⌝ }
+    ensures { λ u. ⌜ now (bank .exit) ≡ withBank 2 m 2 (now (bank .entry)) (mixedIn 2 m 2 (now (bank .entry))) ⌝ }
+{
+    let from = bank.len() - 2;
+    let r = roads_at(bank);
+    let x = imm_road::mix(r.transition, bank[from], bank[from + 1], r.first, r.second);
+    let first = x.first;
+    let second = x.second;
+    let mu = [x.mu0, x.mu1];
+    put_road(bank, 4, first);
+    put_road(bank, 19, second);
+    layout::put_slice(bank, from, &mu[..]);
+}
+
 // ---- the steps
 
-// Every model's state and covariance mixed from those of all; mu becomes the predicted probabilities.
-pub fn imm_mix_estimates(n: usize, m: usize, k: usize, bank: &mut [f64]) -> u8
+// Every model mixed, for any sizes.
+fn mix_rows(n: usize, m: usize, k: usize, bank: &mut [f64]) -> u8
     ensures { λ t. ⌜ (t, now (bank .exit)) ≡ mixIn n m k (now (bank .entry)) ⌝ }
 {
     if is_bank(n, m, k, bank.len()) {
@@ -134,6 +217,17 @@ pub fn imm_mix_estimates(n: usize, m: usize, k: usize, bank: &mut [f64]) -> u8
     } else {
         1
     }
+}
+
+// Every model's state and covariance mixed from those of all; mu becomes the predicted probabilities.
+pub fn imm_mix_estimates(n: usize, m: usize, k: usize, bank: &mut [f64]) -> u8
+    ensures { λ t. ⌜ (t, now (bank .exit)) ≡ mixIn n m k (now (bank .entry)) ⌝ }
+{
+    if is_roads(n, m, k, bank.len()) {
+        mix_roads(m, bank);
+        return 0;
+    }
+    mix_rows(n, m, k, bank)
 }
 
 // mu becomes each probability times its likelihood, as a part of their sum; 1 / k each where the sum is below EPSILON.
