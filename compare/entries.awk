@@ -1,4 +1,4 @@
-# entries.awk: the header estimators.h in, the same functions for Rust out, and how many slices each one takes.
+# entries.awk: the header estimators.h in, the same functions for Rust out, and how many slices of doubles each one takes.
 # A declaration that it cannot read ends it with 1.
 
 function fail(text) {
@@ -26,7 +26,7 @@ function declaration(text,    open, head, words, parameters, count, k, list, sli
   slices = 0
   for (k = 1; k <= count; k++) {
     list = list (k > 1 ? ", " : "") parameter(parameters[k])
-    slices += parameters[k] ~ /^ *size_t [a-z0-9_]+_len$/
+    slices += parameters[k] ~ /^ *size_t [a-z0-9_]+_len$/ && parameters[k - 1] ~ /double \*/
   }
   functions = functions "    pub fn " words[2] "(" list ") -> " rust[words[1]] ";\n"
   table = table "    (\"" words[2] "\", " slices "),\n"
@@ -39,6 +39,8 @@ BEGIN {
   rust["uint8_t"] = "u8"
   rust["double *"] = "*mut f64"
   rust["const double *"] = "*const f64"
+  rust["uint8_t *"] = "*mut u8"
+  rust["const uint8_t *"] = "*const u8"
   rust["size_t *"] = "*mut usize"
   rust["bool *"] = "*mut u8"
 }
@@ -61,5 +63,5 @@ END {
     if (declarations[k] != "") declaration(declarations[k])
   }
   print "#[link(name = \"estimators\", kind = \"static\")]\nextern \"C\" {\n" functions "}\n"
-  print "/// Each function, and how many slices it takes.\npub const SLICES: &[(&str, usize)] = &[\n" table "];"
+  print "/// Each function, and how many slices of doubles it takes.\npub const SLICES: &[(&str, usize)] = &[\n" table "];"
 }

@@ -17,6 +17,11 @@ pub struct Sheets {
     edges: Vec<Vec<u8>>,
 }
 
+/// A sheet with as many stages and readings as there may be, none missing.
+pub fn longest() -> Vec<u8> {
+    plan::Plan::steady(plan::STAGES, plan::READINGS).bytes()
+}
+
 impl Sheets {
     pub fn new(seed: u64) -> Self {
         Sheets { seed, edges: edge::sheets() }

@@ -194,6 +194,22 @@ fn smooth<const N: usize>(name: &str, count: usize) {
     );
 }
 
+/// The longest depot sheet, whole.
+fn sheet() {
+    let bytes = compare::hard_sheets::longest();
+    let (mut printed, mut out) = (Vec::new(), [0; 1600]);
+    rust::sheet(&bytes, &mut printed);
+    let written = port::sheet(&bytes, &mut out);
+    assert!(printed == out[..written], "the port prints another answer than the Rust");
+    row(
+        "sheet, 64 readings, 32 stages",
+        1.0,
+        &mut || rust::sheet(black_box(&bytes), black_box(&mut printed)),
+        None,
+        Some(&mut || keep(&port::sheet(black_box(&bytes), black_box(&mut out)))),
+    );
+}
+
 fn main() {
     heading();
     agree("root", &[rust::root(2.3)], &[port::root(2.3)]);
@@ -221,4 +237,5 @@ fn main() {
     for count in [8, 16, 32, 64] {
         smooth::<2>("growth:", count);
     }
+    sheet();
 }

@@ -27,6 +27,14 @@ pub fn cholesky(n: usize, a: &[f64], out: &mut [f64]) {
     accepted(unsafe { matrix_cholesky(n, a.as_ptr(), a.len(), out.as_mut_ptr(), out.len()) })
 }
 
+/// How many bytes of `out` are the answer.
+pub fn sheet(bytes: &[u8], out: &mut [u8]) -> usize {
+    let mut written = 0;
+    let (to, len) = (out.as_mut_ptr(), out.len());
+    accepted(unsafe { sheet_report(bytes.as_ptr(), bytes.len(), to, len, &mut written) });
+    written
+}
+
 pub struct Filter {
     sizes: [usize; 3],
     cells: Vec<f64>,

@@ -25,6 +25,13 @@ pub fn cholesky<const N: usize>(a: &Matrix<f64, N, N>) -> Option<Matrix<f64, N, 
     a.cholesky()
 }
 
+/// A depot sheet read, filtered, smoothed and printed.
+#[inline(never)]
+pub fn sheet(bytes: &[u8], out: &mut Vec<u8>) {
+    out.clear();
+    compare::sheet::report(bytes, out)
+}
+
 /// Ones on the diagonal and a tenth beside it.
 pub fn transition<const N: usize>() -> Matrix<f64, N, N> {
     let cell = |r: usize, c: usize| match c {

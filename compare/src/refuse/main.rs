@@ -29,7 +29,8 @@ fn wrong_sizes(name: &str) -> &'static [usize] {
     }
 }
 
-/// The header's functions that take slices, and how many each one takes.
+/// The header's functions that take slices of doubles, and how many each one takes. An output of bytes may be longer than
+/// asked for; the program `sheets` has its lengths.
 fn functions() -> impl Iterator<Item = &'static (&'static str, usize)> {
     entries::SLICES.iter().filter(|(_, count)| *count > 0)
 }
