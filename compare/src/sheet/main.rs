@@ -36,16 +36,17 @@ fn count(seed: u64, count: u64) {
     let (mut least, mut of) = (f64::INFINITY, 0);
     for k in 0..count {
         let bytes = sheets.sheet(k);
-        let pivot =
-            read::sheet(&bytes).ok().and_then(|sheet| estimate::filter(&sheet).ok()).map(|s| smallest(&s));
-        if pivot.is_some_and(|pivot| pivot < least) {
-            (least, of) = (pivot.unwrap_or(least), k);
+        if let Some(slots) = read::sheet(&bytes).ok().and_then(|sheet| estimate::filter(&sheet).ok()) {
+            let pivot = smallest(&slots);
+            if pivot < least {
+                (least, of) = (pivot, k);
+            }
         }
         tally.add(&bytes, &answer(&bytes));
     }
     tally.print();
     println!("smallest pivot {least:e}, of sheet {of}; the limit is {:e}", f64::EPSILON * 1e6);
-    println!("{count} sheets, {} refused with 3", tally.threes());
+    println!("{count} sheets, {} refused with 3", tally.rejected());
 }
 
 fn main() -> io::Result<()> {

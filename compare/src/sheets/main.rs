@@ -73,8 +73,8 @@ impl Comparison {
 }
 
 fn main() {
-    let numbers: Vec<u64> = std::env::args().skip(1).filter_map(|text| text.parse().ok()).collect();
-    let [seed, count] = numbers[..] else {
+    let numbers: Option<Vec<u64>> = std::env::args().skip(1).map(|text| text.parse().ok()).collect();
+    let Some(&[seed, count]) = numbers.as_deref() else {
         eprintln!("usage: sheets SEED COUNT");
         std::process::exit(2)
     };
