@@ -80,36 +80,54 @@ pub const KF_POSVEL: usize = 38;
 
 pub const KF_SEQ: usize = 39;
 
-pub const SQ_NEW: usize = 40;
+pub const IF_NEW: usize = 40;
 
-pub const SQ_FROM_CHOLESKY: usize = 41;
+pub const IF_FROM_INFORMATION: usize = 41;
 
-pub const SQ_PREDICT: usize = 42;
+pub const IF_PREDICT: usize = 42;
 
-pub const SQ_UPDATE: usize = 43;
+pub const IF_UPDATE: usize = 43;
 
-pub const SQ_COV: usize = 44;
+pub const IF_STATE: usize = 44;
 
-pub const SQ_RESET: usize = 45;
+pub const IF_COV: usize = 45;
 
-pub const SQ_SEQ: usize = 46;
+pub const IF_RESET: usize = 46;
 
-pub const IMM_NEW: usize = 47;
+pub const IF_FUSE: usize = 47;
 
-pub const IMM_MIX: usize = 48;
+pub const IF_SEQ: usize = 48;
 
-pub const IMM_PROBS: usize = 49;
+pub const SQ_NEW: usize = 49;
 
-pub const IMM_FUSED: usize = 50;
+pub const SQ_FROM_CHOLESKY: usize = 50;
 
-pub const IMM_PROB: usize = 51;
+pub const SQ_PREDICT: usize = 51;
 
-pub const RTS_STORE: usize = 52;
+pub const SQ_UPDATE: usize = 52;
 
-pub const RTS_GET: usize = 53;
+pub const SQ_COV: usize = 53;
 
-pub const RTS_SMOOTH: usize = 54;
+pub const SQ_RESET: usize = 54;
 
-pub const RTS_STALE: usize = 55;
+pub const SQ_SEQ: usize = 55;
+
+pub const IMM_NEW: usize = 56;
+
+pub const IMM_MIX: usize = 57;
+
+pub const IMM_PROBS: usize = 58;
+
+pub const IMM_FUSED: usize = 59;
+
+pub const IMM_PROB: usize = 60;
+
+pub const RTS_STORE: usize = 61;
+
+pub const RTS_GET: usize = 62;
+
+pub const RTS_SMOOTH: usize = 63;
+
+pub const RTS_STALE: usize = 64;
 // Any other name.
-pub const OTHERS: usize = 56;
+pub const OTHERS: usize = 65;

@@ -14,12 +14,16 @@ pub(crate) const WHOLE: u8 = 2;
 
 pub(crate) const TEXT: u8 = 3;
 
-// The letters of steps: covariance, predict, reset, update.
+// The letters of steps: covariance, fuse, predict, reset, state, update.
 pub const C: u64 = 67;
+
+pub const F: u64 = 70;
 
 pub const P: u64 = 80;
 
 pub const R: u64 = 82;
+
+pub const S: u64 = 83;
 
 pub const U: u64 = 85;
 
@@ -158,12 +162,19 @@ pub(crate) fn value_of(word: &[u8]) -> Value {
     finished(read(word, is_negative as usize, kind), is_negative)
 }
 
+fn is_letter(bits: u64) -> bool {
+    match bits {
+        C | F | P | R | S | U => true,
+        _ => false,
+    }
+}
+
 // A word of a call is a whole number, a number, or the letter of a step.
 fn is_of_call(v: Value) -> bool {
     let kind = v.kind;
     match kind {
         WHOLE => true,
-        TEXT => (v.bits == C) | (v.bits == P) | (v.bits == R) | (v.bits == U),
+        TEXT => is_letter(v.bits),
         _ => kind == NUMBER,
     }
 }

@@ -18,7 +18,7 @@ fn place_of(op: usize, v: &[f64], given: &[u8]) -> usize {
     if op <= names::CHOLESKY {
         return replay_matrices::place_of(op, v, given, 0);
     }
-    if op <= names::KF_SEQ {
+    if op <= names::IF_SEQ {
         return replay_filters::place_of(op, v, given, 0);
     }
     if op <= names::SQ_SEQ {
@@ -83,12 +83,13 @@ fn replay(list: &[u8], names: &[u8], tally: &mut [u64]) {
 
 // The names stand at the places that protocol::names gives them.
 fn replay_input(list: &mut [u8]) {
-    let mut tally = [0u64; 64];
+    let mut tally = [0u64; 80];
     let names =
         b"consts sqrt abs clamp_val saturate from_f64 to_f64 from_int pid_abs clamp_pid zeros default filled \
         identity transpose add_mat sub_mat eq scale neg frob_norm trace get set matmul matvec outer vec_add \
         vec_sub vec_dot vec_scale vec_norm inv cholesky kf_new kf_predict kf_update kf_reset kf_posvel \
-        kf_seq sq_new sq_from_cholesky sq_predict sq_update sq_cov sq_reset sq_seq imm_new imm_mix imm_probs \
+        kf_seq if_new if_from_information if_predict if_update if_state if_cov if_reset if_fuse if_seq \
+        sq_new sq_from_cholesky sq_predict sq_update sq_cov sq_reset sq_seq imm_new imm_mix imm_probs \
         imm_fused imm_prob rts_store rts_get rts_smooth rts_stale others";
     let length = io::read_full(STDIN_FILENO, list);
     replay(&list[0..length], names, &mut tally);

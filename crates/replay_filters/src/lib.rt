@@ -1,146 +1,83 @@
-// The operations of src/estimator/kalman.rs replayed through their C functions. The words of a filter, a b h q r x p, lie as its
-// slice does; steps follow them. The answer is sought in the answer given from the place `at` on, and the place behind it handed back.
+// The operations on a filter replayed through their C functions. The words of a filter, a b h q r x p, lie as its slice does (an
+// information filter's omega and xi the other way round); steps follow them. The answer is sought in the answer given from the
+// place `at` on, and the place behind it handed back.
 ghost use Prim.Native.Nat.{_≤_};
-use estimators::filters;
+use protocol::filter::N;
+use protocol::filter::Sizes;
+use protocol::filter::parts_of;
+use protocol::filter::step_cells;
 use protocol::given;
 use protocol::names;
+use protocol::words::C;
+use protocol::words::F;
 use protocol::words::P;
 use protocol::words::R;
+use protocol::words::S;
 use protocol::words::U;
-use protocol::words::cells;
-use protocol::words::number_at;
 use protocol::words::part;
 use protocol::words::size_at;
 use protocol::words::whole_at;
 use std::num::wrapping_add_usize;
 
-// The letter of no step.
-const N: u64 = 78;
+mod linear;
 
-struct Sizes {
-    n: usize,
-    m: usize,
-    i: usize,
+// ---- by the filter's kind
+
+fn is_linear(op: usize) -> bool {
+    op <= names::KF_SEQ
 }
 
-// Where the parts b, h, q, r, x and p begin in a filter, and where p ends.
-struct Parts(usize, usize, usize, usize, usize, usize, usize);
-
-fn parts_of(s: Sizes) -> Parts
-    ensures { λ o. ⌜ o .6 ≤ 112 ⌝ }
-{
-    let square = cells(s.n, s.n);
-    let h = square + cells(s.n, s.i);
-    let q = h + cells(s.m, s.n);
-    let r = q + square;
-    let x = r + cells(s.m, s.m);
-    let p = x + cells(s.n, 1);
-    Parts(square, h, q, r, x, p, p + square)
-}
-
-// The filter of the parts that lie in f.
-fn make(s: Sizes, f: &[f64], filter: &mut [f64]) -> u8 {
-    let Parts(b, h, q, r, x, p, end) = parts_of(s);
-    filters::kalman_new(
-        s.n,
-        s.m,
-        s.i,
-        part(f, 0, b),
-        part(f, b, h),
-        part(f, h, q),
-        part(f, q, r),
-        part(f, r, x),
-        part(f, x, p),
-        part(f, p, end),
-        filter,
-    )
-}
-
-// ---- what a filter leaves: its state and its covariance
-
-fn state(s: Sizes, filter: &[f64], out: &mut [f64], given: &[u8], at: usize) -> usize
+fn begin(op: usize, s: Sizes, w: &[f64], filter: &mut [f64], at: usize) -> usize
     ensures { λ r. ⌜ at ≤ r ⌝ }
 {
-    let status = filters::kalman_state(s.n, s.m, s.i, filter, out);
-    given::left(given, at, status, out)
-}
-
-fn covariance(s: Sizes, filter: &[f64], out: &mut [f64], given: &[u8], at: usize) -> usize
-    ensures { λ r. ⌜ at ≤ r ⌝ }
-{
-    let status = filters::kalman_covariance(s.n, s.m, s.i, filter, out);
-    given::left(given, at, status, out)
-}
-
-fn left(s: Sizes, filter: &[f64], given: &[u8], at: usize) -> usize
-    ensures { λ r. ⌜ at ≤ r ⌝ }
-{
-    let mut x = [0.0; 16];
-    let mut p = [0.0; 16];
-    let length = cells(s.n, 1);
-    let square = cells(s.n, s.n);
-    let bar = given::text(given, at, given::BAR);
-    let place = state(s, filter, &mut x[0..length], given, bar);
-    covariance(s, filter, &mut p[0..square], given, place)
-}
-
-// ---- steps with the numbers w
-
-// The step's status. An update leaves its innovation in out.
-fn taken(letter: u64, s: Sizes, filter: &mut [f64], w: &[f64], out: &mut [f64]) -> u8 {
-    let p = cells(s.n, 1);
-    match letter {
-        N => 0,
-        P => filters::kalman_predict(s.n, s.m, s.i, filter, w),
-        U => filters::kalman_update(s.n, s.m, s.i, filter, w, out),
-        _ => filters::kalman_reset(s.n, s.m, s.i, filter, part(w, 0, p), part(w, p, w.len())),
+    if is_linear(op) {
+        linear::begin(s, w, filter, at)
+    } else {
+        replay_information::begin(s, w, filter, at)
     }
 }
 
-fn step_in(
+fn step(
+    op: usize,
     letter: u64,
     s: Sizes,
     filter: &mut [f64],
     w: &[f64],
-    out: &mut [f64],
     given: &[u8],
     at: usize,
 ) -> usize
     ensures { λ r. ⌜ at ≤ r ⌝ }
 {
-    let status = taken(letter, s, filter, w, out);
-    given::told(given, at, status, out)
-}
-
-// How many numbers a step answers.
-fn told_cells(letter: u64, s: Sizes) -> usize
-    ensures { λ r. ⌜ r ≤ 16 ⌝ }
-{
-    if letter == U { cells(s.m, 1) } else { 0 }
-}
-
-fn step(letter: u64, s: Sizes, filter: &mut [f64], w: &[f64], given: &[u8], at: usize) -> usize
-    ensures { λ r. ⌜ at ≤ r ⌝ }
-{
-    let mut innovation = [0.0; 16];
-    let length = told_cells(letter, s);
-    step_in(letter, s, filter, w, &mut innovation[0..length], given, at)
-}
-
-// How many numbers a step takes.
-fn step_cells(letter: u64, s: Sizes) -> usize
-    ensures { λ r. ⌜ r ≤ 32 ⌝ }
-{
-    match letter {
-        P => cells(s.i, 1),
-        U => cells(s.m, 1),
-        R => cells(s.n, 1) + cells(s.n, s.n),
-        _ => 0,
+    if is_linear(op) {
+        linear::step(letter, s, filter, w, given, at)
+    } else {
+        replay_information::step(letter, s, filter, w, given, at)
     }
 }
 
+// The letter of an operation's only step; that of a sequence's first is among the words.
+fn first_letter(op: usize, word: u64) -> u64 {
+    match op {
+        names::KF_NEW | names::IF_FROM_INFORMATION => N,
+        names::KF_PREDICT | names::IF_PREDICT => P,
+        names::KF_UPDATE | names::IF_UPDATE => U,
+        names::KF_RESET | names::IF_RESET => R,
+        names::IF_STATE => S,
+        names::IF_COV => C,
+        names::IF_FUSE => F,
+        _ => word,
+    }
+}
+
+fn is_sequence(op: usize) -> bool {
+    (op == names::KF_SEQ) | (op == names::IF_SEQ)
+}
+
+// ---- operations
+
 // Steps to the end of the words, from the first one's numbers on; the letter of each further one stands before its numbers.
 fn steps(
+    op: usize,
     first: u64,
     s: Sizes,
     filter: &mut [f64],
@@ -157,8 +94,7 @@ fn steps(
     let mut place = given::LOST;
     while next <= v.len() {
         let end = next + step_cells(letter, s);
-        let told = step(letter, s, filter, part(v, next, end), given, then);
-        place = left(s, filter, given, told);
+        place = step(op, letter, s, filter, part(v, next, end), given, then);
         then = given::text(given, place, given::THEN);
         letter = whole_at(v, end);
         next = end + 1;
@@ -166,27 +102,17 @@ fn steps(
     place
 }
 
-// ---- operations
-
-// The letter of an operation's only step; that of a sequence's first is among the words.
-fn first_letter(op: usize, word: u64) -> u64 {
-    match op {
-        names::KF_NEW => N,
-        names::KF_PREDICT => P,
-        names::KF_UPDATE => U,
-        names::KF_RESET => R,
-        _ => word,
-    }
-}
-
 fn on_filter(op: usize, s: Sizes, filter: &mut [f64], v: &[f64], given: &[u8], at: usize) -> usize
     ensures { λ r. ⌜ at ≤ r ⌝ }
 {
+    if op == names::IF_NEW {
+        return replay_information::new(s, part(v, 3, v.len()), filter, given, at);
+    }
     let end = 3 + filter.len();
-    let status = make(s, part(v, 3, end), filter);
+    let begun = begin(op, s, part(v, 3, end), filter, at);
     let first = first_letter(op, whole_at(v, end));
-    let from = wrapping_add_usize(end, (op == names::KF_SEQ) as usize);
-    steps(first, s, filter, v, from, given, given::start(at, status))
+    let from = wrapping_add_usize(end, is_sequence(op) as usize);
+    steps(op, first, s, filter, v, from, given, begun)
 }
 
 fn in_room(op: usize, v: &[f64], given: &[u8], at: usize) -> usize
@@ -203,22 +129,6 @@ fn in_room(op: usize, v: &[f64], given: &[u8], at: usize) -> usize
     on_filter(op, s, &mut filter[0..length], v, given, at)
 }
 
-// The tracker of position and speed: its model, thirteen numbers, and what it leaves.
-fn position_velocity(v: &[f64], given: &[u8], at: usize) -> usize
-    ensures { λ r. ⌜ at ≤ r ⌝ }
-{
-    let mut filter = [0.0; 19];
-    let dt = number_at(v, 0);
-    let status = filters::kalman_position_velocity(
-        dt,
-        number_at(v, 1),
-        number_at(v, 2),
-        &mut filter,
-    );
-    let place = given::told(given, at, status, &filter[0..13]);
-    left(Sizes { n: 2, m: 1, i: 1 }, &filter, given, place)
-}
-
 pub fn place_of(op: usize, v: &[f64], given: &[u8], at: usize) -> usize
     ensures { λ r. ⌜ at ≤ r ⌝ }
 {
@@ -226,7 +136,7 @@ pub fn place_of(op: usize, v: &[f64], given: &[u8], at: usize) -> usize
         return in_room(op, v, given, at);
     }
     if v.len() == 3 {
-        position_velocity(v, given, at)
+        linear::position_velocity(v, given, at)
     } else {
         given::LOST
     }
