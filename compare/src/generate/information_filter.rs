@@ -44,6 +44,12 @@ fn sensor(draw: &mut Draw, model: &Model, call: &mut Call) {
     call.numbers(&vector(draw, model.m));
 }
 
+fn fusion(draw: &mut Draw, model: &Model) -> Call {
+    let mut call = begun(model, "if_fuse");
+    sensor(draw, model, &mut call);
+    call
+}
+
 /// Two to seven steps.
 pub fn sequence(draw: &mut Draw, model: Model) -> Call {
     let (n, m, i) = (model.n, model.m, model.i);
@@ -82,11 +88,7 @@ pub fn call(draw: &mut Draw) -> Call {
         3 => begun(&model, "if_reset").with(&vector(draw, model.n)).with(&covariance(draw, model.n)),
         4 => begun(&model, "if_state"),
         5 => begun(&model, "if_cov"),
-        6 | 7 => {
-            let mut call = begun(&model, "if_fuse");
-            sensor(draw, &model, &mut call);
-            call
-        }
+        6 | 7 => fusion(draw, &model),
         8..=11 => begun(&model, "if_predict").with(&vector(draw, model.i)),
         12..=16 => begun(&model, "if_update").with(&vector(draw, model.m)),
         _ => sequence(draw, model),
@@ -114,13 +116,20 @@ pub fn edges(draw: &mut Draw) -> Vec<Call> {
     calls.push(begun(&zeros(1.0), "if_predict").with(&[0.5]));
     calls.push(begun(&zeros(1.0), "if_reset").with(&[0.0; 6]));
     for n in 1..=4 {
+        let model = good(draw, n, 1, 1);
+        calls.push(begun(&model, "if_state"));
+        calls.push(begun(&model, "if_cov"));
+        calls.push(begun(&model, "if_reset").with(&vector(draw, n)).with(&shapes::definite(draw, n)));
         for m in 1..=4 {
             for i in 1..=4 {
                 let model = good(draw, n, m, i);
                 calls.push(begun(&model, "if_predict").with(&vector(draw, i)));
                 calls.push(begun(&model, "if_update").with(&vector(draw, m)));
-                calls.push(sequence(draw, model));
             }
+            let model = good(draw, n, m, 1);
+            calls.push(begun(&model, "if_from_information"));
+            calls.push(fusion(draw, &model));
+            calls.push(sequence(draw, model));
             let refused = refusing(draw, n, m, 1);
             calls.push(begun(&refused, "if_update").with(&vector(draw, m)));
             calls.push(begun(&good(draw, n, m, 2), "if_new"));
