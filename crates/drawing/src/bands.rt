@@ -11,24 +11,20 @@ use crate::page::put;
 use crate::place_of;
 use sheet_text::Whole;
 
-// The upper edge of stage j, from 0: a metre past its end; the last has none.
-fn edge(d: Duty, j: usize, f: Frame) -> u32
-    requires { ⌜ d .stages ≤ 32 ⌝ }
+// The upper edge of a stage: a metre past its end; the last stage has no end.
+fn edge(end: u32, is_last: bool, f: Frame) -> u32
     ensures { λ r. ⌜ r ≤ 4500 ⌝ }
 {
-    if j < d.stages {
-        if j + 1 < d.stages {
-            let metres = least(d.ends[j], 9999998) + 1;
-            return down(
-                place_of(Whole {
-                    below: false,
-                    size: metres,
-                }),
-                f,
-            );
-        }
+    if is_last {
+        return TOP;
     }
-    TOP
+    down(
+        place_of(Whole {
+            below: false,
+            size: least(end, 9999998) + 1,
+        }),
+        f,
+    )
 }
 
 // How far the bands are drawn: the byte after them, the lower edge of the next, and the height of the last number written.
@@ -95,7 +91,7 @@ pub(crate) fn bands(page: &mut [u8], at: usize, d: Duty, f: Frame) -> usize
     };
     let mut j: usize = 0;
     while j < d.stages {
-        b = band(page, b, j, edge(d, j, f));
+        b = band(page, b, j, edge(d.ends[j], j + 1 == d.stages, f));
         j += 1;
     }
     put(

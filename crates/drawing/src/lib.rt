@@ -45,72 +45,62 @@ fn at_most(n: usize, most: usize) -> usize
 
 // What an SVG element says of itself, and the styles of its parts. A unit is a tenth of a point on the screen.
 fn styles(page: &mut [u8], at: usize) -> usize {
-    let to = put(
+    put(
         page,
         at,
         b" xmlns='http://www.w3.org/2000/svg' width='960' height='540' viewBox='0 0 9600 5400' \
-        font-family='sans-serif' font-size='140' fill='#222'>\n",
-        [0; 4],
-    );
-    put(
-        page,
-        to,
-        b"<style>.a{fill:#fff}.b{fill:#e4e4e4}.a,.b{stroke:#bbb;stroke-width:4}.f{fill:none;stroke:#222;stroke-width:12}.g{stroke:#222;stroke-width:8}\
-        .s,.d{stroke:#1f3a6e;stroke-width:24}.d{stroke-width:16;stroke-dasharray:45 35}.p{fill:#1f3a6e}\
-        .r{fill:#fff;stroke:#222;stroke-width:14}.m{fill:none;stroke:#c00000;stroke-width:20}\
+        font-family='sans-serif' font-size='140' fill='#222'>\n\
+        <style>.a{fill:#fff}.b{fill:#e4e4e4}.a,.b{stroke:#bbb;stroke-width:4}.f{fill:none;stroke:#222;stroke-width:12}\
+        .g{stroke:#222;stroke-width:8}.s,.d{stroke:#1f3a6e;stroke-width:24}.d{stroke-width:16;stroke-dasharray:45 35}\
+        .p{fill:#1f3a6e}.r{fill:#fff;stroke:#222;stroke-width:14}.m{fill:none;stroke:#c00000;stroke-width:20}\
         .l{fill:#c00000;font-size:120px;font-weight:bold;text-anchor:middle}\
         .c{text-anchor:middle}.e{text-anchor:end}.t{font-size:190px;font-weight:bold}</style>\n\
-        <rect class='a' width='9600' height='5400'/>\n",
+        <rect width='9600' height='5400' fill='#fff'/>\n",
         [0; 4],
     )
 }
 
+// The title line, and what the axes count.
 fn heading(page: &mut [u8], at: usize, d: Duty) -> usize
     requires { ⌜ d .count ≤ 64 ⌝ }
 {
     let readings = d.readings;
     let moved = d.moved;
-    let missing = (d.count as u32) - points::how_many(readings, d.count);
-    let to = put(
-        page,
-        at,
-        b"<text class='t' x='1000' y='350'>Readings: %. Missing: %. Stage moved by smoothing: %.</text>\n",
-        [d.count as u32, missing, points::how_many(moved, d.count), 0],
-    );
+    let count = d.count as u32;
+    let missing = count - points::how_many(readings, d.count);
     put(
         page,
-        to,
-        b"<text class='e' x='900' y='580'>metres</text><text x='9000' y='580'>stage</text>\
+        at,
+        b"<text class='t' x='1000' y='350'>Readings: %. Missing: %. Stage moved by smoothing: %.</text>\n\
+        <text class='e' x='900' y='580'>metres</text><text x='9000' y='580'>stage</text>\
         <text class='c' x='4950' y='4950'>seconds</text>\n",
-        [0; 4],
+        [count, missing, points::how_many(moved, d.count), 0],
     )
 }
 
 fn legend(page: &mut [u8], at: usize) -> usize {
-    let mut to = put(
-        page,
-        at,
-        b"<circle class='r' cx='1060' cy='5185' r='40'/><text x='1160' y='5230'>reading</text>\n",
-        [0; 4],
-    );
-    to = put(
-        page,
-        to,
-        b"<path class='s' d='M2080 5185h260'/><path class='d' d='M2340 5185h360'/>",
-        [0; 4],
-    );
-    to = put(
-        page,
-        to,
-        b"<text x='2800' y='5230'>smoothed position, dashed: no reading</text>\n",
-        [0; 4],
-    );
     put(
         page,
-        to,
-        b"<circle class='m' cx='5930' cy='5185' r='65'/><text x='6060' y='5230'>stage moved, with the stage by the filter</text>\n",
+        at,
+        b"<circle class='r' cx='1060' cy='5185' r='40'/><text x='1160' y='5230'>reading</text>\n\
+        <path class='s' d='M2080 5185h260'/><path class='d' d='M2340 5185h360'/>\
+        <text x='2800' y='5230'>smoothed position, dashed: no reading</text>\n\
+        <circle class='m' cx='5930' cy='5185' r='65'/><text x='6060' y='5230'>stage moved, with the stage by the filter</text>\n",
         [0; 4],
     )
+}
+
+// The title line and the plot.
+fn body(page: &mut [u8], at: usize, d: Duty) -> usize
+    requires { ⌜ (d .count ≤ 64) × (d .stages ≤ 32) ⌝ }
+{
+    let f = frame::frame_of(d);
+    let mut to = heading(page, at, d);
+    to = bands::bands(page, to, d, f);
+    to = ticks::metres(page, to, f);
+    to = ticks::seconds(page, to, f);
+    to = points::line(page, to, d, f);
+    points::readings(page, to, d, f)
 }
 
 // The text after `<svg` and before `</svg>`, from the page's start on, as much of it as has room; its length.
@@ -120,14 +110,8 @@ pub fn draw(page: &mut [u8], duty: Duty) -> usize
     let mut d = duty;
     d.count = at_most(d.count, 64);
     d.stages = at_most(d.stages, 32);
-    let f = frame::frame_of(d);
     let mut to = styles(page, 0);
-    to = heading(page, to, d);
-    to = bands::bands(page, to, d, f);
-    to = ticks::metres(page, to, f);
-    to = ticks::seconds(page, to, f);
-    to = points::line(page, to, d, f);
-    to = points::readings(page, to, d, f);
+    to = body(page, to, d);
     to = legend(page, to);
     at_most(to, page.len())
 }

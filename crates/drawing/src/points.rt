@@ -27,38 +27,39 @@ pub(crate) fn how_many(numbers: [u32; 64], count: usize) -> u32
     n
 }
 
-// Where reading i stands, from 0: at its number of steps.
-fn column(d: Duty, i: usize) -> u32
-    requires { ⌜ (d .count ≤ 64) × (i ≤ 64) ⌝ }
+// Where reading i of count stands, from 0: at its number of steps.
+fn column(i: usize, count: usize) -> u32
+    requires { ⌜ (i ≤ 64) × (count ≤ 64) ⌝ }
     ensures { λ r. ⌜ r ≤ 8900 ⌝ }
 {
-    across(i as u32 + 1, d.count as u32 + 1)
+    across(i as u32 + 1, count as u32 + 1)
 }
 
-// From smoothed place i to the one after it.
-fn segment(page: &mut [u8], at: usize, d: Duty, i: usize, f: Frame) -> usize
-    requires { ⌜ (d .count ≤ 64) × (i ≤ 62) ⌝ }
-{
-    let numbers = [
-        column(d, i),
-        down(d.smoothed[i], f),
-        column(d, i + 1),
-        down(d.smoothed[i + 1], f),
-    ];
-    if is_one(d.readings[i]) + is_one(d.readings[i + 1]) == 2 {
-        put(page, at, b"<path class='s' d='M% %L% %'/>\n", numbers)
+// A piece of the line, from one smoothed place to the next, dashed unless both readings were taken.
+fn segment(page: &mut [u8], at: usize, ends: [u32; 4], reading: u32, next: u32) -> usize {
+    if is_one(reading) + is_one(next) == 2 {
+        put(page, at, b"<path class='s' d='M% %L% %'/>\n", ends)
     } else {
-        put(page, at, b"<path class='d' d='M% %L% %'/>\n", numbers)
+        put(page, at, b"<path class='d' d='M% %L% %'/>\n", ends)
     }
 }
 
+// The smoothed line.
 pub(crate) fn line(page: &mut [u8], at: usize, d: Duty, f: Frame) -> usize
     requires { ⌜ d .count ≤ 64 ⌝ }
 {
     let mut to = at;
+    let mut reading = d.readings[0];
+    let mut x = column(0, d.count);
+    let mut y = down(d.smoothed[0], f);
     let mut i: usize = 1;
     while i < d.count {
-        to = segment(page, to, d, i - 1, f);
+        let next_x = column(i, d.count);
+        let next_y = down(d.smoothed[i], f);
+        to = segment(page, to, [x, y, next_x, next_y], reading, d.readings[i]);
+        reading = d.readings[i];
+        x = next_x;
+        y = next_y;
         i += 1;
     }
     to
@@ -77,39 +78,29 @@ fn dot(page: &mut [u8], at: usize, x: u32, reading: u32, f: Frame) -> usize {
     )
 }
 
-// A ring with the filter's stage, if that is another.
+// The smoothed place, with a ring and the filter's stage where that is another.
 fn ring(page: &mut [u8], at: usize, x: u32, y: u32, stage: u32) -> usize {
-    if stage == 0 {
-        return at;
-    }
     let to = put(
         page,
         at,
+        b"<circle class='p' cx='%' cy='%' r='20'/>\n",
+        [x, y, 0, 0],
+    );
+    if stage == 0 {
+        return to;
+    }
+    let next = put(
+        page,
+        to,
         b"<circle class='m' cx='%' cy='%' r='65'/>",
         [x, y, 0, 0],
     );
     put(
         page,
-        to,
+        next,
         b"<text class='l' x='%' y='%'>%</text>\n",
         [x, above(y, 95), stage, 0],
     )
-}
-
-// What there is of reading i, from 0, and its smoothed place.
-fn point(page: &mut [u8], at: usize, d: Duty, i: usize, f: Frame) -> usize
-    requires { ⌜ (d .count ≤ 64) × (i ≤ 63) ⌝ }
-{
-    let x = column(d, i);
-    let y = down(d.smoothed[i], f);
-    let mut to = dot(page, at, x, d.readings[i], f);
-    to = put(
-        page,
-        to,
-        b"<circle class='p' cx='%' cy='%' r='20'/>\n",
-        [x, y, 0, 0],
-    );
-    ring(page, to, x, y, d.moved[i])
 }
 
 pub(crate) fn readings(page: &mut [u8], at: usize, d: Duty, f: Frame) -> usize
@@ -118,7 +109,9 @@ pub(crate) fn readings(page: &mut [u8], at: usize, d: Duty, f: Frame) -> usize
     let mut to = at;
     let mut i: usize = 0;
     while i < d.count {
-        to = point(page, to, d, i, f);
+        let x = column(i, d.count);
+        to = dot(page, to, x, d.readings[i], f);
+        to = ring(page, to, x, down(d.smoothed[i], f), d.moved[i]);
         i += 1;
     }
     to

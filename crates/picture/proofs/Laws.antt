@@ -2,6 +2,7 @@
 use mathlib.Core.Path.{_≡_, refl, sym, ap, _∙_, subst}
 use mathlib.Core.Bool.{Bool, true, false}
 use mathlib.Core.List.{List, [], _∷_, _++_}
+use mathlib.Core.Logic.{⊎-elim}
 use Prim.Native.Nat.{ℕ, suc, _+_, _*_, _≤_, _<_}
 use native.Mathlib.Omega.{arith}
 use lib.Dec.{ltb}
@@ -10,9 +11,10 @@ use lib.Seq.{take-at}
 use borrow.Author.Tests.{le-ltb}
 use Rattle.sheets.specs.Output.{refusalText}
 use Rattle.sheets.specs.Report.{report}
-use Rattle.sheets.specs.Promise.{AnsweredSheet, ReadingLines, no-more, one-more, joined}
+use Rattle.sheets.specs.Promise.{AnsweredSheet, RefusedSheet, ReadingLines, no-more, one-more, joined}
 use Rattle.sheets.specs.Sheet.{Sheet}
 use Rattle.sheets.proofs.Printing.{length-refusal}
+use Rattle.sheets.proofs.Printed.{reports}
 use Rattle.sheet.specs.Held.{Stored}
 use Rattle.sheet.specs.Call.{reportTold, reportLeft}
 use Rattle.sheet.specs.declared.Reported.{Reported}
@@ -63,3 +65,17 @@ module _ (s d e : List ℕ) (room : 32768 ≤ length d) where
         refused = λ h number line t. (ap Written n, sym (take-append-drop 17 e) ∙ rw (u, v, t));
         answered = λ h a. absurd (never-17 a long);
       }
+
+-- what is written fits the output
+pub pictured-fits : (s d e : List ℕ) (r : Reported) (n : ℕ) → 32768 ≤ length d → Pictured s d e r → r ≡ Written n → n ≤ length d
+pictured-fits s d e r n room p w =
+    ⊎-elim
+    (λ (a : AnsweredSheet s).
+    let q = p .answered room a in
+    let z : n ≡ q .count = cc in
+    omega (arith, q .drawn .fits))
+    (λ (f : RefusedSheet s).
+    let q = p .refused room (f .number) (f .line) (f .is-printed) in
+    let z : n ≡ 17 = cc (q .0) in
+    omega arith)
+    (reports .lines s)

@@ -1,5 +1,5 @@
--- `line` ends: fewer segments are left at each turn, and the page keeps its length.
-use Prim.Native.Nat.{_≤_, _-_}
+-- `line` ends: fewer pieces are left at each turn, and the page keeps its length.
+use Prim.Native.Nat.{_-_}
 use borrow.Author.Needs.{needs}
 use lib.ListN.{length}
 use mathlib.Core.Path.{_≡_}
@@ -7,34 +7,10 @@ use Rattle.drawing.proofs.points.line.Statement.{statement}
 use Rattle.drawing.proofs.points.line.Tie as tie
 
 abbrev Inv-loop : tie.InvT-loop
-Inv-loop page₀ at d f to₀ i₀ page to i = (1 ≤ i) × (length page ≡ length page₀)
+Inv-loop page₀ at f d to₀ reading₀ x₀ y₀ i₀ page to reading x y i = length page ≡ length page₀
 
 abbrev μ-loop : tie.MeasureT-loop
-μ-loop page₀ at d f to₀ i₀ page to i = d .count - i
-
-loop-holds : tie.Need-loop-holds Inv-loop μ-loop
-loop-holds c = search needs
-
-sub-segment : tie.Need-sub-segment Inv-loop μ-loop
-sub-segment c = search needs
-
-segment-requires : tie.Need-segment-requires Inv-loop μ-loop
-segment-requires c κs = search needs
-
-add-i : tie.Need-add-i Inv-loop μ-loop
-add-i c = search needs
-
-loop-less : tie.Need-loop-less Inv-loop μ-loop
-loop-less c = search needs
-
-loop-again : tie.Need-loop-again Inv-loop μ-loop
-loop-again c = search needs
-
-same-length : tie.Need-same-length Inv-loop μ-loop
-same-length c = search needs
-
-returns : tie.Need-returns Inv-loop μ-loop
-returns c = search needs
+μ-loop page₀ at f d to₀ reading₀ x₀ y₀ i₀ page to reading x y i = d .count - i
 
 pub line-spec : {M : Type 1} → statement M
 line-spec =
@@ -42,11 +18,22 @@ line-spec =
     (tie.spec
     Inv-loop
     μ-loop
-    loop-holds
-    sub-segment
-    segment-requires
-    add-i
-    loop-less
-    loop-again
-    same-length
-    returns)
+    (λ c. search needs)
+    (λ c κs. search needs)
+    (λ c. search needs)
+    (λ c κs. search needs)
+    (λ c. search needs)
+    (λ c κs. search needs)
+    (λ c. search needs)
+    (λ c. search needs)
+    (λ c κs. search needs)
+    (λ c. search needs)
+    (λ c. search needs)
+    (λ c κs. search needs)
+    (λ c. search needs)
+    (λ c. search needs)
+    (λ c. search needs)
+    (λ c. search needs)
+    (λ c. search needs)
+    (λ c. search needs)
+    (λ c. search needs))
