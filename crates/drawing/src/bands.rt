@@ -1,14 +1,14 @@
 // The stages as bands, every other one grey, with their numbers at the right edge where they have room.
 ghost use Prim.Native.Nat.{_≤_};
 use crate::Duty;
-use crate::frame::BOTTOM;
-use crate::frame::Frame;
-use crate::frame::TOP;
-use crate::frame::above;
-use crate::frame::down;
-use crate::frame::least;
-use crate::page::put;
 use crate::place_of;
+use chart::frame::BOTTOM;
+use chart::frame::Frame;
+use chart::frame::TOP;
+use chart::frame::above;
+use chart::frame::down;
+use chart::frame::least;
+use chart::page::put;
 use sheet_text::Whole;
 
 // The upper edge of a stage: a metre past its end; the last stage has no end.

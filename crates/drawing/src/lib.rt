@@ -4,14 +4,14 @@ ghost use mathlib.Core.Path.{_≡_};
 ghost use Prim.Native.Nat.{_≤_};
 ghost use lib.ListN.{length};
 ghost use Rattle.drawing.specs.Place.{placeOf};
-use crate::page::put;
+use chart::page::at_most;
+use chart::page::put;
+use chart::ticks;
 use sheet_text::Whole;
 
 mod bands;
-mod frame;
-mod page;
 mod points;
-mod ticks;
+mod shown;
 
 // What is drawn, in its units: seconds from reading to reading, ends in metres, and places in centimetres, of which 2,000,000,000
 // is the start of the road. A reading is 0 where none was taken; `moved` is the stage by the filter where smoothing changed it, else 0.
@@ -35,12 +35,6 @@ pub fn place_of(metres: Whole) -> u32
     } else {
         2000000000 + centimetres
     }
-}
-
-fn at_most(n: usize, most: usize) -> usize
-    ensures { λ r. ⌜ r ≤ most ⌝ }
-{
-    if n < most { n } else { most }
 }
 
 // What an SVG element says of itself, and the styles of its parts. A unit is a tenth of a point on the screen.
@@ -78,7 +72,9 @@ fn heading(page: &mut [u8], at: usize, d: Duty) -> usize
     )
 }
 
-fn legend(page: &mut [u8], at: usize) -> usize {
+fn legend(page: &mut [u8], at: usize) -> usize
+    ensures { λ r. ⌜ r ≤ length (now (page .entry)) ⌝ }
+{
     put(
         page,
         at,
@@ -94,7 +90,7 @@ fn legend(page: &mut [u8], at: usize) -> usize {
 fn body(page: &mut [u8], at: usize, d: Duty) -> usize
     requires { ⌜ (d .count ≤ 64) × (d .stages ≤ 32) ⌝ }
 {
-    let f = frame::frame_of(d);
+    let f = shown::frame_of(d);
     let mut to = heading(page, at, d);
     to = bands::bands(page, to, d, f);
     to = ticks::metres(page, to, f);
@@ -112,6 +108,5 @@ pub fn draw(page: &mut [u8], duty: Duty) -> usize
     d.stages = at_most(d.stages, 32);
     let mut to = styles(page, 0);
     to = body(page, to, d);
-    to = legend(page, to);
-    at_most(to, page.len())
+    legend(page, to)
 }

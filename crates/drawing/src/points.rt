@@ -1,11 +1,11 @@
 // The smoothed line, dashed where no reading was taken; the readings; and a ring where smoothing moved the stage.
 ghost use Prim.Native.Nat.{_≤_};
 use crate::Duty;
-use crate::frame::Frame;
-use crate::frame::above;
-use crate::frame::across;
-use crate::frame::down;
-use crate::page::put;
+use chart::frame::Frame;
+use chart::frame::above;
+use chart::frame::across;
+use chart::frame::down;
+use chart::page::put;
 
 fn is_one(x: u32) -> u32
     ensures { λ r. ⌜ r ≤ 1 ⌝ }

@@ -3,8 +3,8 @@ use Prim.Native.Nat.{_≤_, _-_}
 use borrow.Author.Needs.{needs}
 use lib.ListN.{length}
 use mathlib.Core.Path.{_≡_}
-use Rattle.drawing.proofs.page.put_number.Statement.{statement}
-use Rattle.drawing.proofs.page.put_number.Tie as tie
+use Rattle.chart.proofs.page.put_number.Statement.{statement}
+use Rattle.chart.proofs.page.put_number.Tie as tie
 
 abbrev Inv-loop : tie.InvT-loop
 Inv-loop page₀ at number field to₀ i₀ page to i = (i ≤ 8) × (length page ≡ length page₀)

@@ -1,11 +1,13 @@
 // The axes: round numbers of metres and of seconds.
 ghost use Prim.Native.Nat.{_≤_};
+ghost use lib.ListN.{length};
 use crate::frame::Frame;
 use crate::frame::LONGEST;
 use crate::frame::above;
 use crate::frame::across;
 use crate::frame::down;
 use crate::frame::least;
+use crate::page::at_most;
 use crate::page::put;
 
 // One, two or five times a power of ten, of which a range has fewer than ten.
@@ -46,7 +48,10 @@ fn metres_mark(page: &mut [u8], at: usize, metres: u32, f: Frame) -> usize
     }
 }
 
-pub(crate) fn metres(page: &mut [u8], at: usize, f: Frame) -> usize {
+// The axis of metres, a number at every step.
+pub fn metres(page: &mut [u8], at: usize, f: Frame) -> usize
+    ensures { λ r. ⌜ r ≤ length (now (page .entry)) ⌝ }
+{
     let bottom = f.low / 100;
     let top = f.high / 100;
     let step = round_step(above(top, bottom));
@@ -56,10 +61,13 @@ pub(crate) fn metres(page: &mut [u8], at: usize, f: Frame) -> usize {
         to = metres_mark(page, to, metres, f);
         metres += step;
     }
-    to
+    at_most(to, page.len())
 }
 
-pub(crate) fn seconds(page: &mut [u8], at: usize, f: Frame) -> usize {
+// The axis of seconds.
+pub fn seconds(page: &mut [u8], at: usize, f: Frame) -> usize
+    ensures { λ r. ⌜ r ≤ length (now (page .entry)) ⌝ }
+{
     let last = least(f.last, LONGEST);
     let step = round_step(last);
     let mut to = at;
@@ -74,5 +82,5 @@ pub(crate) fn seconds(page: &mut [u8], at: usize, f: Frame) -> usize {
         );
         t += step;
     }
-    to
+    at_most(to, page.len())
 }

@@ -1,8 +1,8 @@
 -- `round_step` meets its contract, and ends: the unit grows at each turn.
 use Prim.Native.Nat.{_≤_, _-_}
 use borrow.Author.Needs.{needs}
-use Rattle.drawing.proofs.ticks.round_step.Statement.{statement}
-use Rattle.drawing.proofs.ticks.round_step.Tie as tie
+use Rattle.chart.proofs.ticks.round_step.Statement.{statement}
+use Rattle.chart.proofs.ticks.round_step.Tie as tie
 
 abbrev Inv-loop : tie.InvT-loop
 Inv-loop range unit₀ unit = (1 ≤ unit) × (unit ≤ 99999999)

@@ -1,10 +1,10 @@
--- `metres` ends: each turn is a step of at least one metre on, and the page keeps its length.
+-- `metres` meets its contract, and ends: each turn is a step of at least one metre on, and the page keeps its length.
 use Prim.Native.Nat.{_≤_, _+_, _-_}
 use borrow.Author.Needs.{needs}
 use lib.ListN.{length}
 use mathlib.Core.Path.{_≡_}
-use Rattle.drawing.proofs.ticks.metres.Statement.{statement}
-use Rattle.drawing.proofs.ticks.metres.Tie as tie
+use Rattle.chart.proofs.ticks.metres.Statement.{statement}
+use Rattle.chart.proofs.ticks.metres.Tie as tie
 
 abbrev Inv-loop : tie.InvT-loop
 Inv-loop page₀ at f bottom top step to₀ metres₀ page to metres = (1 ≤ step) × (length page ≡ length page₀)
@@ -28,5 +28,6 @@ metres-spec =
     (λ c. search needs)
     (λ c. search needs)
     (λ c. search needs)
+    (λ c κs. search needs)
     (λ c. search needs)
     (λ c. search needs))

@@ -3,8 +3,8 @@ use Prim.Native.Nat.{_≤_}
 use native.Mathlib.Omega.{arith}
 use native.Mathlib.Nat.{mul-le-mul}
 use borrow.Author.Needs.{needs}
-use Rattle.drawing.proofs.frame.share.Statement.{statement}
-use Rattle.drawing.proofs.frame.share.Tie as tie
+use Rattle.chart.proofs.frame.share.Statement.{statement}
+use Rattle.chart.proofs.frame.share.Tie as tie
 
 mul-r : tie.Need-mul-r
 mul-r c =

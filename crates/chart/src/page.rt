@@ -1,7 +1,14 @@
 // A page of bytes: a text is put on it from a byte on, and the place after it returned. What finds no room is left out.
 ghost use Prim.Native.Nat.{_≤_};
+ghost use lib.ListN.{length};
 use sheet_text::Whole;
 use sheet_text::write_field;
+
+pub fn at_most(n: usize, most: usize) -> usize
+    ensures { λ r. ⌜ (r ≤ n) × (r ≤ most) ⌝ }
+{
+    if n < most { n } else { most }
+}
 
 fn put_byte(page: &mut [u8], at: usize, b: u8) -> usize {
     if at < page.len() {
@@ -52,7 +59,9 @@ fn next_number(next: usize, b: u8) -> usize
 }
 
 // A text with one of four numbers, in their order, for each of its percent signs.
-pub(crate) fn put(page: &mut [u8], at: usize, text: &[u8], numbers: [u32; 4]) -> usize {
+pub fn put(page: &mut [u8], at: usize, text: &[u8], numbers: [u32; 4]) -> usize
+    ensures { λ r. ⌜ r ≤ length (now (page .entry)) ⌝ }
+{
     let mut to = at;
     let mut next: usize = 0;
     let mut i: usize = 0;
@@ -62,5 +71,5 @@ pub(crate) fn put(page: &mut [u8], at: usize, text: &[u8], numbers: [u32; 4]) ->
         next = next_number(next, b);
         i += 1;
     }
-    to
+    at_most(to, page.len())
 }

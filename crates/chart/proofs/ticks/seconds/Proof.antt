@@ -1,10 +1,10 @@
--- `seconds` ends: each turn is a step of at least one second on, and the page keeps its length.
+-- `seconds` meets its contract, and ends: each turn is a step of at least one second on, and the page keeps its length.
 use Prim.Native.Nat.{_≤_, _+_, _-_}
 use borrow.Author.Needs.{needs}
 use lib.ListN.{length}
 use mathlib.Core.Path.{_≡_}
-use Rattle.drawing.proofs.ticks.seconds.Statement.{statement}
-use Rattle.drawing.proofs.ticks.seconds.Tie as tie
+use Rattle.chart.proofs.ticks.seconds.Statement.{statement}
+use Rattle.chart.proofs.ticks.seconds.Tie as tie
 
 abbrev Inv-loop : tie.InvT-loop
 Inv-loop page₀ at last step to₀ t₀ t9 page to t = (1 ≤ step) × (length page ≡ length page₀)
@@ -27,5 +27,6 @@ seconds-spec =
     (λ c. search needs)
     (λ c. search needs)
     (λ c. search needs)
+    (λ c κs. search needs)
     (λ c. search needs)
     (λ c. search needs))

@@ -3,8 +3,8 @@ use Prim.Native.Nat.{_≤_, _+_}
 use native.Mathlib.Omega.{arith}
 use native.Mathlib.Nat.{mul-le-mul}
 use borrow.Author.Needs.{needs}
-use Rattle.drawing.proofs.frame.seconds.Statement.{statement}
-use Rattle.drawing.proofs.frame.seconds.Tie as tie
+use Rattle.drawing.proofs.shown.seconds.Statement.{statement}
+use Rattle.drawing.proofs.shown.seconds.Tie as tie
 
 mul-result : tie.Need-mul-result
 mul-result c =

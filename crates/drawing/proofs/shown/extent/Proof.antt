@@ -1,8 +1,8 @@
 -- `extent` ends: fewer readings are left at each turn.
 use Prim.Native.Nat.{_≤_, _-_}
 use borrow.Author.Needs.{needs}
-use Rattle.drawing.proofs.frame.extent.Statement.{statement}
-use Rattle.drawing.proofs.frame.extent.Tie as tie
+use Rattle.drawing.proofs.shown.extent.Statement.{statement}
+use Rattle.drawing.proofs.shown.extent.Tie as tie
 
 abbrev Inv-loop : tie.InvT-loop
 Inv-loop d low₀ high₀ i₀ low high i = i ≤ d .count

@@ -1,10 +1,10 @@
--- `put` ends: fewer bytes of the text are left at each turn, and the page keeps its length.
+-- `put` meets its contract, and ends: fewer bytes of the text are left at each turn, and the page keeps its length.
 use Prim.Native.Nat.{_≤_, _-_}
 use borrow.Author.Needs.{needs}
 use lib.ListN.{length}
 use mathlib.Core.Path.{_≡_}
-use Rattle.drawing.proofs.page.put.Statement.{statement}
-use Rattle.drawing.proofs.page.put.Tie as tie
+use Rattle.chart.proofs.page.put.Statement.{statement}
+use Rattle.chart.proofs.page.put.Tie as tie
 
 abbrev Inv-loop : tie.InvT-loop
 Inv-loop page₀ at text numbers to₀ next₀ i₀ page to next i = (i ≤ length text) × (next ≤ 3) × (length page ≡ length page₀)
@@ -27,5 +27,6 @@ put-spec =
     (λ c. search needs)
     (λ c. search needs)
     (λ c. search needs)
+    (λ c κs. search needs)
     (λ c. search needs)
     (λ c. search needs))
