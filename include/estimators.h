@@ -6,16 +6,17 @@
  * Numbers are IEEE 754 doubles and may hold any bits. A matrix is its cells by rows, used sizes only: R x C is
  * R * C doubles. Sizes are 1 to 4, a smoother's room is 1 to 64 slots.
  *
- * A slice is a pointer and then how many doubles (or bytes) it holds. What no function can test is the caller's part: no pointer
- * is NULL, not even one with a length of 0; behind it stand as many doubles as the length says, aligned, to be read
+ * A slice is a pointer and then how many doubles (or bytes) it holds. What no function can test is the caller's part: no
+ * pointer is NULL, not even one with a length of 0; behind it stand as many doubles as the length says, aligned, to be read
  * and, unless it is const, written; and what a call may write through one pointer, it reaches through no other.
  *
- * A function that can refuse returns 0, or the first of these numbers that applies; then nothing is written (but see
- * information_update):
- *   1  a size outside its limits, sizes that disagree, or a slice of another length than is stated
+ * A function that can refuse returns 0, or the first of these numbers that applies. Then nothing is written, but for three
+ * functions, whose refusal can leave a changed filter: information_update, sqrt_kalman_predict and sqrt_kalman_update, which
+ * say what they leave.
+ *   1  a size outside its limits, sizes that disagree, or a slice of another length than is stated; always unchanged
  *   2  smoothing with no slot stored
- *   3  a matrix that inversion rejects
- *   4  a matrix that has no Cholesky factor
+ *   3  a matrix that inversion rejects, or a measured component without a variance
+ *   4  a matrix that has no Cholesky factor, or a factor that cannot be downdated
  *   5  a smoother's buffer that is full
  *   6  a slot that is not stored
  * The refusals of a depot sheet are lines of its report, and no numbers returned.
