@@ -22,7 +22,7 @@ use Rattle.filtering.specs.Linear.{predict, update}
 use Rattle.filtering.proofs.Shapes.{Way, stopped, went, way}
 use Rattle.layout.proofs.Rows.{whole-vector}
 use Rattle.steps.specs.Step.{wellSized}
-use Rattle.steps.specs.Road.{Filter, updatedOf}
+use Rattle.road.specs.Road.{Filter, updatedOf}
 use Rattle.c_filters.specs.Filter.{isFilter, isStep, isStepWith, isRoad, motionAt, sensorAt, estimateAt, roadIn, withEstimate, predictedIn, predictIn, outcomeIn, updateIn}
 
 pub record Road (n m i k j : ℕ) : Type 0 where

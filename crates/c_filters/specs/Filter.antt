@@ -13,7 +13,7 @@ use Rattle.filtering.specs.Filter.{Motion, Sensor, Estimate, estimate}
 use Rattle.filtering.specs.Linear.{predict, update}
 use Rattle.layout.specs.Layout.{vectorAt, joined, placed, total, offset, partAt, filterParts}
 use Rattle.steps.specs.Step.{wellSized}
-use Rattle.steps.specs.Road.{Filter, trackerOf}
+use Rattle.road.specs.Road.{Filter, trackerOf}
 
 -- ---- sizes
 

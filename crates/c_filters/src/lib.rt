@@ -8,17 +8,16 @@ ghost use Prim.Native.Nat.{_≤_};
 ghost use lib.ListN.{length};
 ghost use Rattle.answer.specs.Told.{given};
 ghost use Rattle.steps.specs.Step.{wellSized};
-ghost use Rattle.steps.specs.Road.{roadOf, estimateOf};
+ghost use Rattle.road.specs.Road.{roadOf, estimateOf};
 ghost use Rattle.layout.specs.Layout.{joined};
 ghost use Rattle.c_filters.specs.Filter.{estimatePlace, isFilter, isStep, isStepWith, isParts, isRoad, roadIn, withEstimate, predictIn, updateIn, newIn, resetIn, stateIn, covarianceIn, filterNumbers, trackerIn};
 use answer::Status;
 use matrix::ScalarResult;
 use matrix::both;
 use matrix::size_of;
-use steps::road;
-use steps::road::Pair;
-use steps::road::Road;
-use steps::road::Two;
+use road::Pair;
+use road::Road;
+use road::Two;
 
 // ---- sizes and places
 

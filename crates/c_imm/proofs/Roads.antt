@@ -15,9 +15,9 @@ use Rattle.filtering.specs.Filter.{Estimate, estimate}
 use Rattle.mixing.specs.Mixing.{Bank, weighted, mixedCovariance, mixedEstimate, mixEstimates}
 use Rattle.layout.specs.Layout.{vectorAt, joined, placed, putAt, total, bankParts}
 use Rattle.layout.proofs.Calls.{slice-put}
-use Rattle.steps.specs.declared.road.Pair.{Pair}
-use Rattle.steps.specs.declared.road.Two.{Two}
-use Rattle.steps.specs.Road.{matrixOf, estimateOf}
+use Rattle.road.specs.declared.Pair.{Pair}
+use Rattle.road.specs.declared.Two.{Two}
+use Rattle.road.specs.Road.{matrixOf, estimateOf}
 use Rattle.imm_road.specs.Road.{bankOf}
 use Rattle.c_imm.specs.Bank.{probabilitiesPlace, isBank, isRoads, estimateAt, bankAt, transitionAt, roadsIn, withEstimates, withBank, mixedIn}
 use Rattle.c_imm.proofs.Banks.{Whole, whole-of}

@@ -10,7 +10,7 @@ ghost use Rattle.answer.specs.Told.{given};
 ghost use Rattle.matrix.specs.Size.{count};
 ghost use Rattle.layout.specs.Layout.{joined, placed, total, modelLength, bankParts};
 ghost use Rattle.steps.specs.Step.{wellSized};
-ghost use Rattle.steps.specs.Road.{matrixOf, estimateOf};
+ghost use Rattle.road.specs.Road.{matrixOf, estimateOf};
 ghost use Rattle.imm_steps.specs.Bank.{bankRows};
 ghost use Rattle.c_imm.specs.Bank.{modelPlace, probabilitiesPlace, isBank, isParts, isRoads, statesIn, covariancesIn, likelihoodsIn, roadsIn, withEstimates, withBank, mixedIn};
 ghost use Rattle.c_imm.specs.Bank.{mixIn, probabilitiesIn, fusedIn, probabilityIn, newIn};
@@ -18,8 +18,8 @@ use matrix::Size;
 use matrix::both;
 use matrix::number;
 use matrix::size_of;
-use steps::road::Pair;
-use steps::road::Two;
+use road::Pair;
+use road::Two;
 
 // Two models of one road: their estimates, and the transition.
 struct RoadBank {

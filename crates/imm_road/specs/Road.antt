@@ -5,8 +5,8 @@ use lib.Ieee.{Float, lt}
 use Rattle.scalar.specs.Number.{_⊗_, _⊘_, +0, epsilon}
 use Rattle.algebra.specs.Matrix.{Vector}
 use Rattle.mixing.specs.Mixing.{Bank}
-use Rattle.steps.specs.declared.road.Pair.{Pair}
-use Rattle.steps.specs.Road.{estimateOf}
+use Rattle.road.specs.declared.Pair.{Pair}
+use Rattle.road.specs.Road.{estimateOf}
 
 -- the bank of two estimates and their probabilities; mixing reads no likelihood
 abbrev pub bankOf : Pair → Pair → Float → Float → Bank

@@ -2,13 +2,13 @@
 // where its numbers stand. Each sum starts at +0, as for any size.
 ghost use mathlib.Core.Path.{_≡_};
 ghost use mathlib.Core.List.{[], _∷_};
-ghost use Rattle.steps.specs.Road.{matrixOf, estimateOf};
+ghost use Rattle.road.specs.Road.{matrixOf, estimateOf};
 ghost use Rattle.mixing.specs.Mixing.{mixedEstimate, mixEstimates};
 ghost use Rattle.imm_road.specs.Road.{bankOf, sharesOf};
 use matrix::kernel::pick;
+use road::Pair;
+use road::Two;
 use scalar::ControlScalar;
-use steps::road::Pair;
-use steps::road::Two;
 
 // The weights of the first and of the second model.
 pub struct Shares {

@@ -17,7 +17,7 @@ use Rattle.filtering.specs.Filter as Filter
 use Rattle.filtering.specs.Information.{Information, ofEstimate, covariance, state, predict, informed, update}
 use Rattle.steps.specs.Step.{wellSized, fitting}
 use Rattle.steps.specs.Flat.{flat, motionFlat, sensorFlat, estimateFrom}
-use Rattle.steps.specs.Road.{asOne}
+use Rattle.matrix.specs.Result.{asOne}
 use Rattle.information_filter.specs.declared.InformationFilter.{InformationFilter}
 use Rattle.information_filter.specs.declared.Sensor.{Sensor}
 use Rattle.information_filter.specs.declared.Stepped.{Stepped}

@@ -15,7 +15,7 @@ use Rattle.matrix.specs.Size.{count, front}
 use Rattle.filtering.specs.Filter.{Motion, Estimate, estimate}
 use Rattle.filtering.specs.Linear.{predict, update}
 use Rattle.steps.specs.Step as Step
-use Rattle.steps.specs.Road.{updatedOf}
+use Rattle.road.specs.Road.{updatedOf}
 use Rattle.steps.specs.Flat.{flat, motionFlat, sensorFlat}
 use Rattle.steps.proofs.Flats.{read, read-sensor}
 use Rattle.kalman.specs.Record.{flatsOf, estimateFlat, leftFlat}

@@ -25,7 +25,7 @@ use Rattle.filtering.specs.Linear.{correction, update}
 use Rattle.filtering.proofs.Shapes.{Way, stopped, went}
 use Rattle.steps.specs.Step.{Rows, updatedRows}
 use Rattle.steps.specs.Flat.{flat}
-use Rattle.steps.specs.Road.{updatedOf}
+use Rattle.road.specs.Road.{updatedOf}
 use Rattle.steps.proofs.Records.{one-number}
 use Rattle.kalman.specs.Record.{flatsOf}
 

@@ -14,7 +14,7 @@ use Rattle.filtering.specs.Filter.{Motion, Sensor, Estimate, estimate}
 use Rattle.filtering.specs.Linear.{predict, update, trackerMotion, trackerSensor, atStart}
 use Rattle.steps.specs.Step.{wellSized, fitting}
 use Rattle.steps.specs.Flat.{flat, motionFlat, sensorFlat, estimateFrom}
-use Rattle.steps.specs.Road.{asOne}
+use Rattle.matrix.specs.Result.{asOne}
 use Rattle.kalman.specs.declared.KalmanFilter.{KalmanFilter}
 use Rattle.kalman.specs.declared.Stepped.{Stepped}
 use Rattle.kalman.specs.declared.Updated.{Updated}

@@ -7,7 +7,7 @@ ghost use Rattle.matrix.specs.Result.{asVector};
 ghost use Rattle.answer.specs.Outcome.{if-fitting, handed};
 ghost use Rattle.answer.specs.Told.{statusOf};
 ghost use Rattle.steps.specs.Step.{fitting};
-ghost use Rattle.steps.specs.Road.{matrixOf, estimateOf};
+ghost use Rattle.road.specs.Road.{matrixOf, estimateOf};
 ghost use Rattle.steps.specs.Flat.{flat, motionFrom, sensorFrom, estimateFrom};
 ghost use Rattle.kalman.specs.Record.{estimateFlat, flatsOf, leftFlat, predictFlat, updateFlat, noFilter, newOf, positionVelocityOf, stateOf, covarianceOf};
 ghost use Rattle.kalman.specs.Record.{predictOf, resetOf, updateOf, updateOneOf};
@@ -19,10 +19,10 @@ use matrix::VectorResult;
 use matrix::both;
 use matrix::kernel;
 use matrix::size_of;
+use road::Pair;
+use road::Two;
 use steps::is_fitting;
 use steps::is_well_sized;
-use steps::road::Pair;
-use steps::road::Two;
 
 // Sizes: state n, measurement m, input i. Transition a (n by n), input matrix b (n by i), measurement matrix h (m by n), process
 // noise q (n by n), measurement noise r (m by m), state x, covariance p (n by n). A matrix stands flat, four numbers a row; what
@@ -103,7 +103,7 @@ fn predict_road<'a>(
         (now (x .exit), now (p .exit)) ≡ leftFlat (now (x .entry)) (now (p .entry))
         (predictFlat 2 1 (now (a .entry)) (now (b .entry)) (now (q .entry)) (now (u .entry)) (now (x .entry)) (now (p .entry))) ⌝ }
 {
-    let e = steps::road::predict(two_in(a), b[0], b[4], two_in(q), u[0], pair_in(x, p));
+    let e = road::predict(two_in(a), b[0], b[4], two_in(q), u[0], pair_in(x, p));
     *x = [e.x0, e.x1, 0.0, 0.0];
     *p = flat_two(e.p);
 }
@@ -119,7 +119,7 @@ fn update_road<'a>(
         (v, (now (x .exit), now (p .exit))) ≡ handed asVector flatsOf (now (x .entry), now (p .entry))
         (updateFlat 2 1 (now (h .entry)) (now (r .entry)) (cut 1 (now (z .entry))) (now (x .entry)) (now (p .entry))) ⌝ }
 {
-    let v = steps::road::update(h[0], h[1], r[0], z[0], pair_in(x, p));
+    let v = road::update(h[0], h[1], r[0], z[0], pair_in(x, p));
     let answer = v.answer;
     match answer {
         ScalarResult::Value(y) => {
@@ -407,7 +407,7 @@ impl KalmanFilter {
     pub fn position_velocity(dt: f64, process_noise: f64, measurement_noise: f64) -> KalmanFilter
         ensures { λ f. ⌜ f ≡ positionVelocityOf dt «process_noise» «measurement_noise» ⌝ }
     {
-        let f = steps::road::position_velocity(dt, process_noise, measurement_noise);
+        let f = road::position_velocity(dt, process_noise, measurement_noise);
         let z = [0.0; 4];
         let e = f.pair;
         KalmanFilter {

@@ -11,8 +11,8 @@ use Rattle.matrix.specs.declared.ScalarResult.{ScalarResult}
 use Rattle.matrix.specs.declared.ScalarResult.the-variants as Scalar
 use Rattle.matrix.specs.declared.TestResult.{TestResult}
 use Rattle.matrix.specs.declared.TestResult.the-variants as Test
-use Rattle.answer.specs.Answer.{Answer, refused, answered}
-use Rattle.algebra.specs.Matrix.{Vector, Matrix}
+use Rattle.answer.specs.Answer.{Answer, refused, answered, mapped}
+use Rattle.algebra.specs.Matrix.{Vector, Matrix, at}
 use Rattle.algebra.specs.Array.{pad, padRow}
 
 abbrev pub matrixResult : Status → List (List Float) → MatrixResult
@@ -33,6 +33,10 @@ asVector (answered v) = vectorResult Done (padRow v)
 abbrev pub asScalar : Answer Float → ScalarResult
 asScalar (refused k) = Scalar.Refused k
 asScalar (answered x) = Scalar.Value x
+
+-- a vector of one number, as that number
+abbrev pub asOne : Answer Vector → ScalarResult
+asOne a = asScalar (mapped (λ y. at y 0) a)
 
 abbrev pub asTest : Answer Bool → TestResult
 asTest (refused k) = Test.Refused k

@@ -23,9 +23,9 @@ use Rattle.matrix.specs.Result.{asMatrix}
 use Rattle.inverse.specs.Two.{inRows}
 use Rattle.inverse.proofs.Results.{was-answered, was-refused}
 use Rattle.filtering.specs.Filter.{Estimate, propagated, gain, correctedState}
-use Rattle.steps.specs.declared.road.Two.{Two}
-use Rattle.steps.specs.declared.road.Pair.{Pair}
-use Rattle.steps.specs.Road.{matrixOf, estimateOf}
+use Rattle.road.specs.declared.Two.{Two}
+use Rattle.road.specs.declared.Pair.{Pair}
+use Rattle.road.specs.Road.{matrixOf, estimateOf}
 use Rattle.steps.specs.Step.{Rows, estimateRows, arraysOf}
 use Rattle.filtering.proofs.Shapes.{shape-gain}
 use Rattle.layout.specs.Layout.{vectorIn, matrixIn, pairLength, stride}

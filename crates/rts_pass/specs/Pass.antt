@@ -16,8 +16,8 @@ use Rattle.layout.specs.Layout.{joined, placed, pairLength}
 use Rattle.matrix.specs.declared.Size.{Size}
 use Rattle.matrix.specs.Size.{count, part}
 use Rattle.steps.specs.Step.{Rows, estimateRows, arraysOf}
-use Rattle.steps.specs.declared.road.Pair.{Pair}
-use Rattle.steps.specs.Road.{estimateOf}
+use Rattle.road.specs.declared.Pair.{Pair}
+use Rattle.road.specs.Road.{estimateOf}
 use Rattle.smoothing.specs.Smoother.{Slot, smoothSlot, smooth}
 use Rattle.rts_pass.specs.Buffer.{dutyOf, pairNumbers, outputOf, buffered}
 

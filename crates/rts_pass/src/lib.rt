@@ -7,7 +7,7 @@ ghost use Prim.Native.Nat.{_+_, _*_, _≤_};
 ghost use lib.ListN.{length};
 ghost use Rattle.matrix.specs.Size.{count, part, sized};
 ghost use Rattle.layout.specs.Layout.{matrixAt, placed, pairLength, stride};
-ghost use Rattle.steps.specs.Road.{matrixOf, estimateOf};
+ghost use Rattle.road.specs.Road.{matrixOf, estimateOf};
 ghost use Rattle.smoothing.specs.Smoother.{smoothedPair, smoothSlot, smoothSlots};
 ghost use Rattle.rts_pass.specs.Buffer.{pairAt, slotFrom, slotsOf, pairNumbers, roomy, counted, buffered};
 ghost use Rattle.smoothing.specs.Demand3.{Demand3};
@@ -19,10 +19,9 @@ use matrix::both;
 use matrix::kernel;
 use matrix::number;
 use matrix::size_of;
+use road::Pair;
+use road::Two;
 use scalar::ControlScalar;
-use steps::road;
-use steps::road::Pair;
-use steps::road::Two;
 
 // ---- sizes, tested by one bool
 

@@ -19,7 +19,7 @@ use Rattle.matrix.proofs.Results.{done-not-refused}
 use Rattle.filtering.specs.Filter.{Sensor}
 use Rattle.filtering.specs.SquareRoot.{Factored, components, update}
 use Rattle.steps.specs.Step.{fitting}
-use Rattle.steps.specs.Road.{asOne}
+use Rattle.matrix.specs.Result.{asOne}
 use Rattle.steps.proofs.Sizes.{as-asked}
 use Rattle.sqrt_steps.proofs.Components.{Way, stopped, failed, went, way}
 use Rattle.sqrt_kalman.specs.declared.SqrtKalman.{SqrtKalman}

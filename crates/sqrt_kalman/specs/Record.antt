@@ -13,7 +13,7 @@ use Rattle.matrix.specs.Result.{asMatrix, asVector}
 use Rattle.filtering.specs.Filter.{Motion, Sensor, Estimate}
 use Rattle.filtering.specs.SquareRoot.{Factored, factored, ofEstimate, covariance, predict, update}
 use Rattle.steps.specs.Step.{wellSized, fitting}
-use Rattle.steps.specs.Road.{asOne}
+use Rattle.matrix.specs.Result.{asOne}
 use Rattle.steps.specs.Flat.{flat, motionFlat, estimateFrom}
 use Rattle.sqrt_kalman.specs.declared.SqrtKalman.{SqrtKalman}
 use Rattle.sqrt_kalman.specs.declared.Stepped.{Stepped}

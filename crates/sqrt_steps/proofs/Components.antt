@@ -34,7 +34,7 @@ use Rattle.matrix.proofs.Results.{done-not-refused, answered-value, refused-num
 use Rattle.matrix.proofs.Kernels.{dot-sized}
 use Rattle.filtering.specs.SquareRoot.{Factored, factored, variance, vecOver, rotated, component}
 use Rattle.steps.specs.Step.{Rows}
-use Rattle.steps.specs.Road.{asOne}
+use Rattle.matrix.specs.Result.{asOne}
 use Rattle.sqrt_steps.specs.Step.{factoredRows, arraysOf}
 use Rattle.sqrt_steps.proofs.Downdates.{Shaped, none, some, shaped-rotated, part-standing}
 

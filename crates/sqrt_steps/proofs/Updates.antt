@@ -24,7 +24,7 @@ use Rattle.matrix.specs.Result.{vectorResult, asVector}
 use Rattle.filtering.specs.Filter.{Sensor}
 use Rattle.filtering.specs.SquareRoot.{Factored, factored, component, components, update}
 use Rattle.steps.specs.Step.{Rows}
-use Rattle.steps.specs.Road.{asOne}
+use Rattle.matrix.specs.Result.{asOne}
 use Rattle.sqrt_steps.specs.Step.{factoredRows, channelRows, arraysOf}
 use Rattle.sqrt_steps.proofs.Components.{Way, stopped, failed, went, Sized, way, component-after}
 

@@ -11,7 +11,7 @@ ghost use Rattle.matrix.specs.Result.{asScalar, asVector};
 ghost use Rattle.filtering.specs.SquareRoot.{turnedDiagonal, rotate as rotateOf, rotated, variance as varianceOf, vecOver};
 ghost use Rattle.filtering.specs.SquareRoot.{covariance as covarianceOf, predict as predictOf, component as componentOf, update as updateOf};
 ghost use Rattle.steps.specs.Step.{motionRows};
-ghost use Rattle.steps.specs.Road.{asOne};
+ghost use Rattle.matrix.specs.Result.{asOne};
 ghost use Rattle.sqrt_steps.specs.Step.{turnedColumn, turnedVector, withColumn, rotatedRows, factoredRows, channelRows, arraysOf};
 use answer::Status;
 use matrix::ScalarResult;

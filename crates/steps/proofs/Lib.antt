@@ -1,6 +1,5 @@
 pub mod Sizes
 pub mod Vectors
 pub mod Ways
-pub mod Roads
 pub mod Flats
 pub mod Records

@@ -26,7 +26,7 @@ use Rattle.matrix.specs.Result.{asVector}
 use Rattle.matrix.proofs.Sizes.{is-count}
 use Rattle.matrix.proofs.Results.{done-not-refused}
 use Rattle.steps.specs.Step.{fitting}
-use Rattle.steps.specs.Road.{asOne}
+use Rattle.matrix.specs.Result.{asOne}
 use Rattle.steps.proofs.Sizes.{Fits, fits, as-asked}
 
 -- ---- `put` makes the numbers W of what a filter keeps, and `keep` the record F around them

@@ -14,8 +14,6 @@ use matrix::both;
 use matrix::kernel;
 use matrix::number;
 
-pub mod road;
-
 // ---- the sizes of a filter, tested by one bool
 
 // All sizes are 1 to 4.

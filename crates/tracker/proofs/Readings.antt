@@ -18,7 +18,8 @@ use Rattle.matrix.specs.declared.ScalarResult.{ScalarResult}
 use Rattle.matrix.specs.declared.ScalarResult.the-variants.{Value, Refused}
 use Rattle.filtering.specs.Filter.{Motion, Sensor, Estimate}
 use Rattle.filtering.specs.Linear.{predict, update}
-use Rattle.steps.specs.Road.{estimateOf, asOne, updatedOf}
+use Rattle.matrix.specs.Result.{asOne}
+use Rattle.road.specs.Road.{estimateOf, updatedOf}
 use Rattle.tracking.specs.Track.{moved, corrected, filter, measured}
 use Rattle.tracker.specs.declared.Reading.{Reading}
 use Rattle.tracker.specs.declared.Filtered.{Filtered}

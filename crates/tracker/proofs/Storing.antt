@@ -10,8 +10,8 @@ use lib.Ieee.{Float}
 use Rattle.answer.specs.Answer.{Answer, refused, answered}
 use Rattle.algebra.specs.Matrix.{Vector, Matrix}
 use Rattle.filtering.specs.Filter.{Motion, Sensor, Estimate}
-use Rattle.steps.specs.declared.road.Pair.{Pair}
-use Rattle.steps.specs.Road.{estimateOf}
+use Rattle.road.specs.declared.Pair.{Pair}
+use Rattle.road.specs.Road.{estimateOf}
 use Rattle.layout.specs.Layout.{placed}
 use Rattle.smoothing.specs.Smoother.{Slot}
 use Rattle.rts_pass.specs.Buffer.{pairAt, slotNumbers, slotsOf, dutyOf}

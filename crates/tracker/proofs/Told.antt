@@ -16,8 +16,8 @@ use Rattle.answer.proofs.Tables.{length-table, table-ext, map-table}
 use Rattle.algebra.specs.Matrix.{at}
 use Rattle.algebra.specs.Array.{cut, used}
 use Rattle.matrix.specs.Size.{sized}
-use Rattle.steps.specs.declared.road.Two.{Two}
-use Rattle.steps.specs.Road.{matrixOf}
+use Rattle.road.specs.declared.Two.{Two}
+use Rattle.road.specs.Road.{matrixOf}
 use Rattle.smoothing.specs.Smoother.{Duty, smooth}
 use Rattle.rts_pass.specs.Buffer.{pairAt, slotFrom, slotAt, slotsOf, dutyOf, roomy, counted, buffered}
 use Rattle.rts_pass.specs.Pass.{smoothable, smoothOf}

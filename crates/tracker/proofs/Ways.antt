@@ -7,8 +7,8 @@ use mathlib.Core.List.{List, map, map-map}
 use lib.ListN.{length, take}
 use lib.Seq.{take-all}
 use Rattle.filtering.specs.Linear.{trackerSensor, atStart}
-use Rattle.steps.specs.declared.road.Road.{Road}
-use Rattle.steps.specs.Road.{Filter, matrixOf, roadOf, trackerOf}
+use Rattle.road.specs.declared.Road.{Road}
+use Rattle.road.specs.Road.{Filter, matrixOf, roadOf, trackerOf}
 use Rattle.smoothing.specs.Smoother.{Slot}
 use Rattle.tracking.specs.Track.{Tracked, Smoothed, and-then, slotsFrom, measured, positions, smoothedBy, dutyOf, motion, slots, track}
 use Rattle.tracker.specs.declared.Reading.{Reading}

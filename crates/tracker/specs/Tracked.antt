@@ -12,8 +12,8 @@ use Rattle.answer.specs.Answer.{Answer, refused, answered}
 use Rattle.answer.specs.Table.{table, padTo}
 use Rattle.algebra.specs.Matrix.{Vector, Matrix, at}
 use Rattle.filtering.specs.Filter.{Motion, Sensor, Estimate}
-use Rattle.steps.specs.declared.road.Road.{Road}
-use Rattle.steps.specs.Road.{motionOf, sensorOf, estimateOf}
+use Rattle.road.specs.declared.Road.{Road}
+use Rattle.road.specs.Road.{motionOf, sensorOf, estimateOf}
 use Rattle.smoothing.specs.Smoother.{Slot}
 use Rattle.tracking.specs.Track as Track
 use Rattle.tracking.specs.Track.{Tracked, rejected, tracked, Smoothed, slotsFrom, measured, positions, latest, smoothedBy}

@@ -4,18 +4,17 @@ ghost use mathlib.Core.Path.{_≡_};
 ghost use Prim.Native.Nat.{_+_, _*_, _≤_};
 ghost use lib.ListN.{length};
 ghost use Rattle.layout.specs.Layout.{placed};
-ghost use Rattle.steps.specs.Road.{matrixOf, estimateOf};
+ghost use Rattle.road.specs.Road.{matrixOf, estimateOf};
 ghost use Rattle.rts_pass.specs.Buffer.{slotNumbers, slotsOf};
 ghost use Rattle.rts_pass.specs.Pass.{slotOfTwo};
 ghost use Rattle.tracking.specs.Track.{moved as movedOf, corrected as correctedOf};
 ghost use Rattle.tracker.specs.Tracked.{measuredOf, motionIn, sensorIn, slotsIn, answerOf, trackedOf, latestOf, gatheredFrom, rejectedAt, smoothedOf, trackIn};
 use answer::Status;
 use matrix::ScalarResult;
+use road::Pair;
+use road::Road;
+use road::Two;
 use scalar::ControlScalar;
-use steps::road;
-use steps::road::Pair;
-use steps::road::Road;
-use steps::road::Two;
 
 // A wheel distance in metres; where none was taken, metres play no part.
 pub struct Reading {

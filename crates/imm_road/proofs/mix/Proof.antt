@@ -6,7 +6,7 @@ use Rattle.scalar.specs.Number.{_⊕_, _⊗_, +0}
 use Rattle.algebra.specs.Matrix.{Vector, sumFrom}
 use Rattle.filtering.specs.Filter.{Estimate}
 use Rattle.mixing.specs.Mixing.{predicted, weights, weighted, spread, mixedCovariance, mixedEstimate, mixEstimates}
-use Rattle.steps.specs.declared.road.Pair.{Pair}
+use Rattle.road.specs.declared.Pair.{Pair}
 use Rattle.imm_road.specs.Road.{bankOf}
 use borrow.Author.Needs.{needs}
 use Rattle.imm_road.proofs.mix.Statement.{statement}

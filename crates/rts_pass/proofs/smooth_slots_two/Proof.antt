@@ -5,7 +5,7 @@ use native.Mathlib.Omega.{arith}
 use borrow.Author.Needs.{needs}
 use Rattle.answer.specs.Answer.{answered}
 use Rattle.algebra.specs.Array.{cut, used}
-use Rattle.steps.specs.Road.{estimateOf}
+use Rattle.road.specs.Road.{estimateOf}
 use Rattle.rts_pass.specs.Buffer.{slotFrom, slotAt}
 use Rattle.rts_pass.specs.Pass.{slotOfTwo}
 use Rattle.rts_pass.proofs.Passes.{left-done, left-refused, Going, going-start, going-room, going-more, going-stop, going-done}

@@ -1,6 +1,6 @@
 -- `corrected` meets its contract: by whether there is a reading, and what the update answers.
 use borrow.Author.Needs.{needs}
-use Rattle.steps.specs.Road.{estimateOf}
+use Rattle.road.specs.Road.{estimateOf}
 use Rattle.tracker.specs.Tracked.{sensorIn}
 use Rattle.tracker.proofs.Readings.{corrected-value, corrected-refused, corrected-none}
 use Rattle.tracker.proofs.corrected.Statement.{statement}

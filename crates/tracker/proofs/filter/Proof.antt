@@ -2,7 +2,7 @@
 use Prim.Native.Nat.{_-_}
 use native.Mathlib.Omega.{arith}
 use borrow.Author.Needs.{needs}
-use Rattle.steps.specs.Road.{estimateOf}
+use Rattle.road.specs.Road.{estimateOf}
 use Rattle.tracker.specs.Tracked.{motionIn, sensorIn, measuredOf}
 use Rattle.tracking.specs.Track.{slotOf}
 use Rattle.tracker.proofs.Readings.{filtered-done, filtered-refused}

@@ -1,6 +1,6 @@
 -- `moved` meets its contract: the predict.
 use borrow.Author.Needs.{needs}
-use Rattle.steps.specs.Road.{estimateOf}
+use Rattle.road.specs.Road.{estimateOf}
 use Rattle.tracker.specs.Tracked.{motionIn}
 use Rattle.tracker.proofs.Readings.{moved-is}
 use Rattle.tracker.proofs.moved.Statement.{statement}

@@ -3,7 +3,7 @@ use mathlib.Core.Path.{_≡_, ap, _∙_}
 use mathlib.Core.List.{[], _∷_}
 use Rattle.scalar.specs.Number.{+0}
 use Rattle.algebra.specs.Array.{pad}
-use Rattle.steps.specs.Road.{Filter, roadOf}
+use Rattle.road.specs.Road.{Filter, roadOf}
 use Rattle.kalman.specs.declared.KalmanFilter.{KalmanFilter}
 use Rattle.kalman.specs.Record.{recordOf}
 use Rattle.kalman.proofs.KalmanFilter.position_velocity.Statement.{statement}

@@ -14,8 +14,8 @@ use Rattle.inverse.specs.Two.{invNumber}
 use Rattle.inverse.proofs.Two.{number-is}
 use Rattle.filtering.specs.Filter.{Estimate, propagated, innovation}
 use Rattle.filtering.specs.Linear.{correction, update}
-use Rattle.steps.specs.declared.road.Pair.{Pair}
-use Rattle.steps.specs.Road.{sensorOf, estimateOf, correctedOf, updatedOf}
+use Rattle.road.specs.declared.Pair.{Pair}
+use Rattle.road.specs.Road.{sensorOf, estimateOf, correctedOf, updatedOf}
 
 module _ (h0 h1 r z : Float) (e : Pair) where
   -- H P Hᵀ + R, and z - H x, as the code has them

@@ -1,10 +1,10 @@
--- `road::position_velocity` meets its contract: the definition, written out.
+-- `position_velocity` meets its contract: the definition, written out.
 use mathlib.Core.Path.{refl}
 use lib.Ieee.{ofBits}
 use Rattle.algebra.specs.Matrix.{identity, scale}
 use Rattle.filtering.specs.Linear.{trackerMotion, trackerSensor, atStart}
-use Rattle.steps.proofs.road.position_velocity.Statement.{statement}
-use Rattle.steps.proofs.road.position_velocity.Tie as tie
+use Rattle.road.proofs.position_velocity.Statement.{statement}
+use Rattle.road.proofs.position_velocity.Tie as tie
 
 returns : tie.Need-returns
 unfolding identity scale trackerMotion trackerSensor atStart ofBits

@@ -2,15 +2,14 @@
 use mathlib.Core.List.{[], _∷_}
 use lib.Ieee.{Float}
 use Rattle.answer.specs.Outcome.{Outcome, handed}
-use Rattle.answer.specs.Answer.{Answer, mapped}
-use Rattle.algebra.specs.Matrix.{Vector, Matrix, at}
+use Rattle.algebra.specs.Matrix.{Vector, Matrix}
 use Rattle.matrix.specs.declared.ScalarResult.{ScalarResult}
-use Rattle.matrix.specs.Result.{asScalar}
+use Rattle.matrix.specs.Result.{asOne}
 use Rattle.filtering.specs.Filter.{Motion, Sensor, Estimate, estimate, gain, correctedState, correctedCovariance}
-use Rattle.steps.specs.declared.road.Two.{Two}
+use Rattle.road.specs.declared.Two.{Two}
 use Rattle.filtering.specs.Linear.{trackerMotion, trackerSensor, atStart}
-use Rattle.steps.specs.declared.road.Pair.{Pair}
-use Rattle.steps.specs.declared.road.Road.{Road}
+use Rattle.road.specs.declared.Pair.{Pair}
+use Rattle.road.specs.declared.Road.{Road}
 
 abbrev pub matrixOf : Two → Matrix
 matrixOf t = (t .a ∷ t .b ∷ []) ∷ (t .c ∷ t .d ∷ []) ∷ []
@@ -44,9 +43,6 @@ correctedOf h0 h1 e y w =
     let K = gain 2 1 (e .covariance) H ((w ∷ []) ∷ []) in
     estimate (correctedState 2 1 K (y ∷ []) (e .state)) (correctedCovariance 2 1 K H (e .covariance))
 
--- ---- what an update tells, the one innovation as a number, and leaves
-abbrev pub asOne : Answer Vector → ScalarResult
-asOne a = asScalar (mapped (λ y. at y 0) a)
-
+-- what an update tells, the one innovation as a number, and leaves
 abbrev pub updatedOf : Estimate → Outcome Estimate Vector → ScalarResult × Estimate
 updatedOf e o = handed asOne (λ s. s) e o

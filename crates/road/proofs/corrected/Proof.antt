@@ -1,9 +1,9 @@
--- `road::corrected` meets its contract: the definition at two states and one measurement, written out.
+-- `corrected` meets its contract: the definition at two states and one measurement, written out.
 use mathlib.Core.Path.{refl}
 use Rattle.algebra.specs.Matrix.{sumFrom, mul, matvec, transpose, sub, identity, vecAdd}
 use Rattle.filtering.specs.Filter.{gain, correctedState, correctedCovariance}
-use Rattle.steps.proofs.road.corrected.Statement.{statement}
-use Rattle.steps.proofs.road.corrected.Tie as tie
+use Rattle.road.proofs.corrected.Statement.{statement}
+use Rattle.road.proofs.corrected.Tie as tie
 
 returns : tie.Need-returns
 unfolding sumFrom mul matvec transpose sub identity vecAdd gain correctedState correctedCovariance

@@ -1,9 +1,9 @@
--- `road::gain` meets its contract: the definition at two states, written out.
+-- `gain` meets its contract: the definition at two states, written out.
 use mathlib.Core.Path.{refl}
 use Rattle.algebra.specs.Matrix.{sumFrom, mul, transpose}
 use Rattle.filtering.specs.Filter.{gain}
-use Rattle.steps.proofs.road.gain.Statement.{statement}
-use Rattle.steps.proofs.road.gain.Tie as tie
+use Rattle.road.proofs.gain.Statement.{statement}
+use Rattle.road.proofs.gain.Tie as tie
 
 returns : tie.Need-returns
 unfolding sumFrom mul transpose gain

@@ -5,7 +5,7 @@ ghost use mathlib.Core.List.{[], _∷_};
 ghost use Rattle.answer.specs.Outcome.{done};
 ghost use Rattle.filtering.specs.Filter.{gain as gainOf};
 ghost use Rattle.filtering.specs.Linear.{predict as predictOf, update as updateOf};
-ghost use Rattle.steps.specs.Road.{matrixOf, motionOf, sensorOf, estimateOf, roadOf, trackerOf, correctedOf, updatedOf};
+ghost use Rattle.road.specs.Road.{matrixOf, motionOf, sensorOf, estimateOf, roadOf, trackerOf, correctedOf, updatedOf};
 use matrix::ScalarResult;
 
 // The rows (a, b) and (c, d).

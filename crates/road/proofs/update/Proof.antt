@@ -1,10 +1,10 @@
--- `road::update` meets its contract: by what the inversion of one number answers.
+-- `update` meets its contract: by what the inversion of one number answers.
 use Rattle.matrix.proofs.Results.{answered-value, refused-number}
 use Rattle.inverse.specs.Two.{invNumber}
-use Rattle.steps.proofs.Roads.{variance, when-answered, when-refused}
+use Rattle.road.proofs.Roads.{variance, when-answered, when-refused}
 use borrow.Author.Needs.{needs}
-use Rattle.steps.proofs.road.update.Statement.{statement}
-use Rattle.steps.proofs.road.update.Tie as tie
+use Rattle.road.proofs.update.Statement.{statement}
+use Rattle.road.proofs.update.Tie as tie
 
 returns : tie.Need-returns
 returns c =

@@ -1,10 +1,10 @@
--- `road::predict` meets its contract: the definition at two states and one input, written out.
+-- `predict` meets its contract: the definition at two states and one input, written out.
 use mathlib.Core.Path.{refl}
 use Rattle.algebra.specs.Matrix.{sumFrom, mul, matvec, transpose, add, vecAdd}
 use Rattle.filtering.specs.Filter.{predictedState, propagated}
 use Rattle.filtering.specs.Linear.{predict}
-use Rattle.steps.proofs.road.predict.Statement.{statement}
-use Rattle.steps.proofs.road.predict.Tie as tie
+use Rattle.road.proofs.predict.Statement.{statement}
+use Rattle.road.proofs.predict.Tie as tie
 
 returns : tie.Need-returns
 unfolding sumFrom mul matvec transpose add vecAdd predictedState propagated predict
