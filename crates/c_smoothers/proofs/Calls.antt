@@ -22,9 +22,11 @@ use Rattle.layout.proofs.Places.{placed-whole, then-placed}
 use Rattle.layout.proofs.Rows.{ends-within}
 use Rattle.layout.proofs.Calls.{matrix-used, slice-put}
 use Rattle.smoothing.specs.Smoother.{smooth}
-use Rattle.rts_pass.specs.Buffer.{dutyOf, outputOf, buffered}
-use Rattle.rts_pass.specs.Pass.{smoothable, smoothInto, smoothLeft, smoothOf}
-use Rattle.rts_pass.proofs.Sizes.{buffered-of, buffer-small, square-small, stride-is}
+use Rattle.duty.specs.Buffer.{dutyOf, outputOf, buffered}
+use Rattle.duty.specs.Buffer.{smoothable}
+use Rattle.rts_pass.specs.Pass.{smoothInto, smoothOf}
+use Rattle.duty.specs.Passed.{smoothLeft}
+use Rattle.duty.proofs.Sizes.{buffered-of, buffer-small, square-small, stride-is}
 use Rattle.c_smoothers.specs.Smoother.{isPairs, isSquare, storeIn, slotIn, smoothIn}
 
 -- ---- the tests of one slice, as the code makes them

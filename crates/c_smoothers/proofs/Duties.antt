@@ -10,9 +10,9 @@ use Rattle.layout.specs.Layout.{matrixAt}
 use Rattle.smoothing.specs.Smoother.{smooth}
 use Rattle.smoothing.specs.Demand3.{Demand3}
 use Rattle.smoothing.proofs.Demand3.{demand3-by}
-use Rattle.rts_pass.specs.Buffer.{outputOf}
+use Rattle.duty.specs.Buffer.{outputOf}
 use Rattle.rts_pass.specs.Call.{pairsOf}
-use Rattle.rts_pass.proofs.Sizes.{smoothable-of}
+use Rattle.duty.proofs.Sizes.{smoothable-of}
 use Rattle.rts_pass.proofs.Call.{read-back}
 use Rattle.c_smoothers.specs.Smoother.{isSquare}
 use Rattle.c_smoothers.specs.Call.{SliceCall, duty, run}

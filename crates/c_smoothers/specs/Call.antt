@@ -9,8 +9,8 @@ use Rattle.answer.specs.Answer.{Answer, mapped}
 use Rattle.filtering.specs.Filter.{Estimate}
 use Rattle.layout.specs.Layout.{matrixAt}
 use Rattle.smoothing.specs.Smoother.{Duty}
-use Rattle.rts_pass.specs.Buffer.{dutyOf}
-use Rattle.rts_pass.specs.Pass.{smoothable}
+use Rattle.duty.specs.Buffer.{dutyOf}
+use Rattle.duty.specs.Buffer.{smoothable}
 use Rattle.rts_pass.specs.Call.{pairsOf}
 use Rattle.c_smoothers.specs.Smoother.{isSquare, smoothIn}
 

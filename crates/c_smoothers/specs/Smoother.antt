@@ -9,8 +9,8 @@ use Rattle.answer.specs.Answer.{Answer, mapped, refused-if, if-sized}
 use Rattle.matrix.specs.Size.{sized}
 use Rattle.layout.specs.Layout.{matrixAt, placed, pairLength, stride}
 use Rattle.smoothing.specs.Smoother.{smooth}
-use Rattle.rts_pass.specs.Buffer.{dutyOf, outputOf, buffered}
-use Rattle.rts_pass.specs.Pass.{smoothable}
+use Rattle.duty.specs.Buffer.{dutyOf, outputOf, buffered}
+use Rattle.duty.specs.Buffer.{smoothable}
 
 -- n is a size, and a slice of m numbers is just k pairs; a slot is two
 unfoldable pub isPairs : ℕ → ℕ → ℕ → Bool

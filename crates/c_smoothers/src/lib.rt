@@ -6,14 +6,14 @@ ghost use mathlib.Core.Bool.{_&&_};
 ghost use Prim.Native.Nat.{_≤_};
 ghost use lib.ListN.{length};
 ghost use Rattle.answer.specs.Told.{given};
-ghost use Rattle.rts_pass.specs.Buffer.{buffered};
+ghost use Rattle.duty.specs.Buffer.{buffered};
 ghost use Rattle.smoothing.specs.Demand3.{Demand3};
 ghost use Rattle.c_smoothers.specs.Call.{duty, run};
 ghost use Rattle.c_smoothers.specs.Smoother.{isPairs, isSquare, storeIn, slotIn, smoothIn};
+use duty::is_buffered;
+use duty::stride_of;
 use matrix::both;
 use matrix::size_of;
-use rts_pass::is_buffered;
-use rts_pass::stride_of;
 
 // ---- sizes
 

@@ -18,11 +18,11 @@ use Rattle.smoothing.specs.Smoother.{smooth}
 use Rattle.smoothing.specs.Demand3.{Demand3}
 use Rattle.smoothing.proofs.Backward.{Each}
 use Rattle.smoothing.proofs.Demand3.{demand3-by}
-use Rattle.rts_pass.specs.Buffer.{pairAt, dutyOf, pairNumbers, outputOf}
-use Rattle.rts_pass.specs.Pass.{smoothLeft}
+use Rattle.duty.specs.Buffer.{pairAt, dutyOf, pairNumbers, outputOf}
+use Rattle.duty.specs.Passed.{smoothLeft}
 use Rattle.rts_pass.specs.Call.{Call, duty, pairsOf, answerOf, run}
-use Rattle.rts_pass.proofs.Sizes.{smoothable-of}
-use Rattle.rts_pass.proofs.Pairs.{Paired}
+use Rattle.duty.proofs.Sizes.{smoothable-of}
+use Rattle.duty.proofs.Pairs.{Paired}
 use Rattle.rts_pass.proofs.Outputs.{pairs-back, in-front-of, smoothed-pairs, smoothed-count}
 
 -- the pairs that were written are read back

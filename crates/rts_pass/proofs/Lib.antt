@@ -1,6 +1,4 @@
-pub mod Sizes
-pub mod Pairs
+pub mod Arrays
 pub mod Steps
-pub mod Passes
 pub mod Outputs
 pub mod Call

@@ -23,11 +23,13 @@ use Rattle.layout.proofs.Calls.{slice-put}
 use Rattle.smoothing.specs.Backward.{pass}
 use Rattle.smoothing.specs.Smoother.{slotGain, smoothedPair, smoothSlots, smooth}
 use Rattle.smoothing.proofs.Backward.{Each, each-table, pass-each, pass-count}
-use Rattle.rts_pass.specs.Buffer.{pairAt, slotFrom, slotAt, slotsOf, dutyOf, pairNumbers, outputOf}
-use Rattle.rts_pass.specs.Pass.{Passed, smoothable, smoothLeft, smoothOf}
-use Rattle.rts_pass.proofs.Sizes.{smoothable-of}
-use Rattle.rts_pass.proofs.Pairs.{Paired, length-pair, paired-at, pair-back}
-use Rattle.rts_pass.proofs.Passes.{paired-smoothed, told-done, told-refused}
+use Rattle.duty.specs.Buffer.{pairAt, slotFrom, slotAt, slotsOf, dutyOf, pairNumbers, outputOf}
+use Rattle.duty.specs.Passed.{Passed, smoothLeft}
+use Rattle.duty.specs.Buffer.{smoothable}
+use Rattle.rts_pass.specs.Pass.{smoothOf}
+use Rattle.duty.proofs.Sizes.{smoothable-of}
+use Rattle.duty.proofs.Pairs.{Paired, length-pair, paired-at, pair-back}
+use Rattle.duty.proofs.Passes.{paired-smoothed, told-done, told-refused}
 
 -- ---- pairs, one after another
 length-pairs : (n : ℕ) (r : List Estimate) → Each (Paired n) r → length (joined (map pairNumbers r)) ≡ length r * pairLength n

@@ -1,4 +1,4 @@
--- One slot as the code smooths it, by what inversion answers: of any size in arrays, and of two states by its numbers. Assumes nothing.
+-- One slot as the code smooths it in arrays, by what inversion answers. Assumes nothing.
 use mathlib.Core.Path.{_≡_, sym, ap, _∙_}
 use mathlib.Core.List.{List}
 use Prim.Native.Nat.{ℕ, _+_, _*_, _≤_}
@@ -8,8 +8,8 @@ use lib.Ieee.{Float}
 use Rattle.answer.specs.declared.Status.{Status}
 use Rattle.answer.specs.declared.Status.the-variants.{Done, Refused}
 use Rattle.answer.specs.Answer.{answered}
-use Rattle.algebra.specs.Matrix.{Matrix, at, sub, vecSub, twoByTwo}
-use Rattle.algebra.specs.Array.{cut, used, padRow, pad}
+use Rattle.algebra.specs.Matrix.{Matrix, sub, vecSub}
+use Rattle.algebra.specs.Array.{padRow, pad}
 use Rattle.algebra.specs.Inverse.{inv}
 use Rattle.algebra.proofs.Matrices.{shape-sub}
 use Rattle.algebra.proofs.Vectors.{length-vecSub}
@@ -17,25 +17,20 @@ use Rattle.algebra.proofs.Arrays.{used-pad, cut-padRow}
 use Rattle.algebra.proofs.Inverses.{inv-shape}
 use Rattle.matrix.specs.declared.Size.{Size}
 use Rattle.matrix.specs.declared.MatrixResult.{MatrixResult}
-use Rattle.matrix.specs.declared.VectorResult.{VectorResult}
 use Rattle.matrix.specs.Size.{count, front, part}
 use Rattle.matrix.specs.Result.{asMatrix}
-use Rattle.inverse.specs.Two.{inRows}
 use Rattle.inverse.proofs.Results.{was-answered, was-refused}
-use Rattle.filtering.specs.Filter.{Estimate, propagated, gain, correctedState}
-use Rattle.road.specs.declared.Two.{Two}
-use Rattle.road.specs.declared.Pair.{Pair}
-use Rattle.road.specs.Road.{matrixOf, estimateOf}
+use Rattle.filtering.specs.Filter.{propagated, gain, correctedState}
 use Rattle.steps.specs.Step.{Rows, estimateRows, arraysOf}
 use Rattle.filtering.proofs.Shapes.{shape-gain}
 use Rattle.layout.specs.Layout.{vectorIn, matrixIn, pairLength, stride}
 use Rattle.smoothing.specs.Smoother.{Slot, smoothedState, smoothedCovariance, smoothedPair, smoothSlot}
 use Rattle.smoothing.proofs.Slots.{covariance-propagated, slot-answered, slot-refused}
-use Rattle.rts_pass.specs.Buffer.{pairAt, slotFrom}
-use Rattle.rts_pass.specs.Pass.{slotOfTwo, smoothLeft}
-use Rattle.rts_pass.proofs.Pairs.{state-read, covariance-read}
+use Rattle.duty.specs.Buffer.{pairAt, slotFrom}
+use Rattle.duty.specs.Passed.{smoothLeft}
+use Rattle.rts_pass.proofs.Arrays.{state-read, covariance-read}
 
--- ---- the slot from number k on of b, of any size: q and w are its predicted covariance and that inverted
+-- the slot from number k on of b: q and w are its predicted covariance and that inverted
 module _ (n : Size) (b : List Float) (k : ℕ) (h : k + stride (count n) ≤ length b) (f : Rows) (x : List Float) (p : Rows) {size : ℕ} (es : size ≡ count n)
     {q : Rows} (eq : q ≡ pad (matrixIn (count n) (count n) b (k + (size + size * size) + size))) {w : MatrixResult} (ew : w ≡ asMatrix (inv (count n) (part n n q))) where
   abbrev s : Slot
@@ -89,22 +84,3 @@ module _ (n : Size) (b : List Float) (k : ℕ) (h : k + stride (count n) ≤ len
       let state : x′ ≡ padRow (smoothedState N s K (front n x)) = ex ∙ λ i. padRow (correctedState N N (isK i) (isX i) (U i)) in
       let covariance : p′ ≡ pad (smoothedCovariance N s K (part n n p)) = ep ∙ (λ i. pad (propagated N N (isK i) (isP i) (C i))) ∙ ap pad (sym (covariance-propagated N s K (part n n p))) in
       (λ i. (Done, (state i, covariance i))) ∙ sym (ap (smoothLeft arraysOf (x, p)) (slot-answered N F s (estimateRows n x p) isW))
-
--- ---- the slot of the filtered pair e and the predicted pair y, of two states: r has the inverted predicted covariance
-module _ (e y next : Pair) (f : Two) (r : VectorResult) (er : inRows r ≡ asMatrix (inv 2 (matrixOf (y .p)))) where
-  abbrev outcome-two : Status × Estimate
-  outcome-two = smoothLeft (λ s. s) (estimateOf next) (smoothSlot 2 (matrixOf f) (slotOfTwo e y) (estimateOf next))
-
-  pub two-refused : {j : ℕ} → r .status ≡ Refused j → (Refused j, estimateOf next) ≡ outcome-two
-  two-refused d = sym (ap (smoothLeft (λ s. s) (estimateOf next)) (slot-refused 2 (matrixOf f) (slotOfTwo e y) (estimateOf next) (was-refused (inv 2 (matrixOf (y .p))) er d)))
-
-  abbrev inverted : Matrix
-  inverted = twoByTwo (at (r .cells) 0) (at (r .cells) 1) (at (r .cells) 2) (at (r .cells) 3)
-
-  pub two-done : {G : Matrix} {v : Estimate} → r .status ≡ Done → G ≡ gain 2 2 (matrixOf (e .p)) (matrixOf f) inverted
-      → v ≡ smoothedPair 2 (slotOfTwo e y) G (estimateOf next) → (Done, v) ≡ outcome-two
-  unfolding used cut pad
-  two-done d eg ev =
-      let isW : inv 2 (matrixOf (y .p)) ≡ answered inverted = was-answered (inv 2 (matrixOf (y .p))) (inv-shape 2 (matrixOf (y .p))) er d in
-      (λ i. (Done, (ev ∙ ap (λ (G : Matrix). smoothedPair 2 (slotOfTwo e y) G (estimateOf next)) eg) i))
-      ∙ sym (ap (smoothLeft (λ s. s) (estimateOf next)) (slot-answered 2 (matrixOf f) (slotOfTwo e y) (estimateOf next) isW))

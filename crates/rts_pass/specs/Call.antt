@@ -13,8 +13,9 @@ use Rattle.algebra.specs.Array.{used}
 use Rattle.filtering.specs.Filter.{Estimate}
 use Rattle.smoothing.specs.Smoother.{Duty}
 use Rattle.layout.specs.Layout.{pairLength}
-use Rattle.rts_pass.specs.Buffer.{pairAt, dutyOf}
-use Rattle.rts_pass.specs.Pass.{smoothable, smoothOf}
+use Rattle.duty.specs.Buffer.{pairAt, dutyOf}
+use Rattle.duty.specs.Buffer.{smoothable}
+use Rattle.rts_pass.specs.Pass.{smoothOf}
 
 -- what the call is given; all sizes are right
 pub record Call : Type 0 where

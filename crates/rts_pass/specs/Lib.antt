@@ -1,3 +1,2 @@
-pub mod Buffer
 pub mod Pass
 pub mod Call

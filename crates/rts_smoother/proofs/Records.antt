@@ -23,9 +23,9 @@ use Rattle.filtering.specs.Filter.{estimate}
 use Rattle.layout.specs.Layout.{placed, pairLength, stride}
 use Rattle.layout.proofs.Places.{then-placed}
 use Rattle.layout.proofs.Rows.{ends-within}
-use Rattle.rts_pass.specs.Buffer.{pairNumbers, slotNumbers, buffered}
-use Rattle.rts_pass.proofs.Sizes.{Buffered, buffered-of, buffer-small}
-use Rattle.rts_pass.proofs.Pairs.{length-pair}
+use Rattle.duty.specs.Buffer.{pairNumbers, slotNumbers, buffered}
+use Rattle.duty.proofs.Sizes.{Buffered, buffered-of, buffer-small}
+use Rattle.duty.proofs.Pairs.{length-pair}
 use Rattle.rts_smoother.specs.declared.FilteredState.{FilteredState}
 use Rattle.rts_smoother.specs.declared.StateResult.{StateResult}
 use Rattle.rts_smoother.specs.declared.RtsSmoother.{RtsSmoother}

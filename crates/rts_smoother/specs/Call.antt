@@ -9,7 +9,7 @@ use Rattle.answer.specs.Answer.{Answer, answered}
 use Rattle.algebra.specs.Matrix.{Matrix}
 use Rattle.filtering.specs.Filter.{Estimate}
 use Rattle.smoothing.specs.Smoother.{Duty}
-use Rattle.rts_pass.specs.Buffer.{dutyOf}
+use Rattle.duty.specs.Buffer.{dutyOf}
 use Rattle.rts_pass.specs.Call.{Call, answerOf}
 use Rattle.rts_pass.specs.Call as Pass
 use Rattle.rts_smoother.specs.declared.FilteredState.{FilteredState}

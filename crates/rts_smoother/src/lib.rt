@@ -7,17 +7,17 @@ ghost use Prim.Native.Nat.{_+_, _≤_};
 ghost use lib.ListN.{length};
 ghost use Rattle.matrix.specs.Size.{sized};
 ghost use Rattle.layout.specs.Layout.{placed, stride};
-ghost use Rattle.rts_pass.specs.Buffer.{slotNumbers};
+ghost use Rattle.duty.specs.Buffer.{slotNumbers};
 ghost use Rattle.smoothing.specs.Demand3.{Demand3};
 ghost use Rattle.rts_smoother.specs.Call.{duty, run, StoredDuty};
 ghost use Rattle.rts_smoother.specs.Record.{slotOf, storable, stateFrom, newOf, resetOf, lenOf, isEmptyOf, storeOf, getStateRefusal, getState, placeOf, smoothWith};
 use answer::Status;
+use duty::is_buffered;
+use duty::is_counted;
+use duty::stride_of;
 use matrix::TestResult;
 use matrix::kernel;
 use matrix::size_of;
-use rts_pass::is_buffered;
-use rts_pass::is_counted;
-use rts_pass::stride_of;
 
 // One slot: the filtered state x and covariance p, n by n, and the predicted pair. A matrix stands flat, four
 // numbers a row; what stands outside its sizes is ignored.

@@ -19,7 +19,7 @@ use Rattle.inverse.specs.Two.{inRows}
 use Rattle.inverse.proofs.Results.{was-answered, was-refused}
 use Rattle.smoothing.specs.Smoother.{Slot}
 use Rattle.smoothing.specs.Demand3.{Rejected}
-use Rattle.rts_pass.specs.Buffer.{pairAt, slotFrom, slotAt, slotsOf}
+use Rattle.duty.specs.Buffer.{pairAt, slotFrom, slotAt, slotsOf}
 use Rattle.tracking.specs.Track.{rejects, orHere, latest}
 use Rattle.tracking.proofs.Latest.{latest-from, latest-first}
 use Rattle.tracker.specs.Tracked.{latestOf}

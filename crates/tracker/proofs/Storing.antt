@@ -14,9 +14,9 @@ use Rattle.road.specs.declared.Pair.{Pair}
 use Rattle.road.specs.Road.{estimateOf}
 use Rattle.layout.specs.Layout.{placed}
 use Rattle.smoothing.specs.Smoother.{Slot}
-use Rattle.rts_pass.specs.Buffer.{pairAt, slotNumbers, slotsOf, dutyOf}
-use Rattle.rts_pass.specs.Pass.{slotOfTwo}
-use Rattle.rts_pass.proofs.Pairs.{Paired, paired-at}
+use Rattle.duty.specs.Buffer.{pairAt, slotNumbers, slotsOf, dutyOf}
+use Rattle.rts_road.specs.Slot.{slotOfTwo}
+use Rattle.duty.proofs.Pairs.{Paired, paired-at}
 use Rattle.rts_smoother.proofs.Stores.{Slotted, stored-slots}
 use Rattle.tracking.specs.Track.{Tracked, rejected, tracked, and-then, at-reading, filter, slotOf, slotsFrom}
 

@@ -8,8 +8,8 @@ use lib.Seq.{length-take-le}
 use borrow.Author.Needs.{needs}
 use Rattle.matrix.specs.Size.{count}
 use Rattle.matrix.proofs.Sizes.{is-count}
-use Rattle.rts_pass.specs.Pass.{smoothable}
-use Rattle.rts_pass.proofs.Sizes.{Smoothable, smoothable-of, output-small, passable}
+use Rattle.duty.specs.Buffer.{smoothable}
+use Rattle.duty.proofs.Sizes.{Smoothable, smoothable-of, output-small, passable}
 use Rattle.rts_pass.proofs.Outputs.{smooth-unsized, smooth-none, smooth-stopped, smooth-done}
 use Rattle.rts_pass.proofs.smooth.Statement.{statement}
 use Rattle.rts_pass.proofs.smooth.Tie as tie

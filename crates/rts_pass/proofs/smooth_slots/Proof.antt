@@ -11,11 +11,12 @@ use Rattle.steps.specs.Step.{estimateRows, arraysOf}
 use Rattle.layout.specs.Layout.{pairLength, stride}
 use Rattle.layout.proofs.Calls.{few}
 use Rattle.smoothing.specs.Smoother.{smoothSlots}
-use Rattle.rts_pass.specs.Buffer.{pairAt, slotFrom, slotsOf}
-use Rattle.rts_pass.specs.Pass.{Passed}
-use Rattle.rts_pass.proofs.Sizes.{part-room}
-use Rattle.rts_pass.proofs.Pairs.{state-read, covariance-read, held, pair-placed}
-use Rattle.rts_pass.proofs.Passes.{left-done, left-refused, Going, going-start, going-more, going-stop, going-done}
+use Rattle.duty.specs.Buffer.{pairAt, slotFrom, slotsOf}
+use Rattle.duty.specs.Passed.{Passed}
+use Rattle.duty.proofs.Sizes.{part-room}
+use Rattle.rts_pass.proofs.Arrays.{state-read, covariance-read, held}
+use Rattle.duty.proofs.Pairs.{pair-placed}
+use Rattle.duty.proofs.Passes.{left-done, left-refused, Going, going-start, going-more, going-stop, going-done}
 use Rattle.rts_pass.proofs.smooth_slots.Statement.{statement}
 use Rattle.rts_pass.proofs.smooth_slots.Tie as tie
 

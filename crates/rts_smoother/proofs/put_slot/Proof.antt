@@ -4,7 +4,7 @@ use native.Mathlib.Omega.{arith}
 use borrow.Author.Needs.{needs}
 use Rattle.matrix.proofs.Sizes.{bounds-of, is-count}
 use Rattle.layout.specs.Layout.{pairLength}
-use Rattle.rts_pass.proofs.Pairs.{pair-placed}
+use Rattle.duty.proofs.Pairs.{pair-placed}
 use Rattle.rts_smoother.proofs.Records.{slot-placed}
 use Rattle.rts_smoother.proofs.put_slot.Statement.{statement}
 use Rattle.rts_smoother.proofs.put_slot.Tie as tie

@@ -3,7 +3,7 @@ use mathlib.Core.List.{[], _∷_}
 use native.Mathlib.Omega.{arith}
 use lib.ListN.{length-set}
 use Rattle.layout.proofs.Places.{set-placed, placed-next}
-use Rattle.rts_pass.specs.Buffer.{pairNumbers, slotNumbers}
+use Rattle.duty.specs.Buffer.{pairNumbers, slotNumbers}
 use Rattle.tracker.proofs.put_slot.Statement.{statement}
 use Rattle.tracker.proofs.put_slot.Tie as tie
 

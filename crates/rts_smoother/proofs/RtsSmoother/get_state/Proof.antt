@@ -5,7 +5,7 @@ use native.Mathlib.Omega.{arith}
 use borrow.Author.Needs.{needs}
 use borrow.Author.Tests.{eq-eqb, ne-eqb}
 use Rattle.layout.specs.Layout.{stride}
-use Rattle.rts_pass.proofs.Sizes.{stride-is}
+use Rattle.duty.proofs.Sizes.{stride-is}
 use Rattle.rts_smoother.specs.Record.{getStateRefusal}
 use Rattle.rts_smoother.proofs.Records.{Within, within}
 use Rattle.rts_smoother.proofs.RtsSmoother.get_state.Statement.{statement}

@@ -3,7 +3,7 @@ use mathlib.Core.Path.{refl, _∙_}
 use borrow.Author.Needs.{needs}
 use borrow.Author.Tests.{eq-eqb, ne-eqb}
 use Rattle.matrix.proofs.Results.{if-answered, if-refused}
-use Rattle.rts_pass.specs.Pass.{smoothLeft}
+use Rattle.duty.specs.Passed.{smoothLeft}
 use Rattle.rts_smoother.proofs.RtsSmoother.smooth.Statement.{statement}
 use Rattle.rts_smoother.proofs.RtsSmoother.smooth.Tie as tie
 

@@ -6,7 +6,7 @@ use lib.ListN.{length}
 use borrow.Author.Needs.{needs}
 use borrow.Author.Tests.{le-leb}
 use Rattle.layout.specs.Layout.{stride}
-use Rattle.rts_pass.proofs.Sizes.{stride-is}
+use Rattle.duty.proofs.Sizes.{stride-is}
 use Rattle.rts_smoother.specs.Record.{storable}
 use Rattle.rts_smoother.proofs.Records.{storable-of, store-way, store-done, Fitting, fitting}
 use Rattle.rts_smoother.proofs.RtsSmoother.store_forward.Statement.{statement}
