@@ -4,7 +4,7 @@ ghost use mathlib.Core.Path.{_≡_};
 ghost use Rattle.answer.specs.Answer.{where-sized, if-sized};
 ghost use Rattle.algebra.specs.Matrix.{mul};
 ghost use Rattle.algebra.specs.Array.{used};
-ghost use Rattle.matrix.specs.Size.{sized, chained};
+ghost use Rattle.sizes.specs.Size.{sized, chained};
 ghost use Rattle.matrix.specs.Result.{asMatrix};
 ghost use Rattle.algebra.specs.Inverse.{inv};
 ghost use Rattle.algebra.specs.Cholesky.{cholesky};

@@ -10,7 +10,7 @@ use lib.ListN.{length, getD, take, drop, length-take, length-drop}
 use lib.Ieee.{Float}
 use borrow.Author.Tests.{eqb-true}
 use Rattle.answer.proofs.Choice.{and-left, and-right}
-use Rattle.matrix.proofs.Sizes.{bounds-of}
+use Rattle.sizes.proofs.Sizes.{bounds-of}
 use Rattle.layout.specs.Layout.{joined, placed, putAt, total, offset, filterParts}
 use Rattle.layout.proofs.Parts.{Fits, none, more, next-part, all-parts}
 use Rattle.layout.proofs.Places.{placed-whole}

@@ -15,7 +15,7 @@ use Rattle.answer.proofs.Answers.{differ}
 use Rattle.algebra.specs.Matrix.{Vector, at}
 use Rattle.matrix.specs.declared.ScalarResult.{ScalarResult}
 use Rattle.matrix.specs.declared.ScalarResult.the-variants as Scalar
-use Rattle.matrix.specs.Size.{sized}
+use Rattle.sizes.specs.Size.{sized}
 use Rattle.matrix.proofs.Results.{answered-value, refused-number}
 use Rattle.filtering.specs.Filter.{Estimate}
 use Rattle.filtering.specs.Linear.{predict, update}

@@ -12,10 +12,10 @@ use Rattle.answer.specs.Outcome.{Outcome, standing}
 use Rattle.algebra.specs.Matrix.{Vector, Matrix}
 use Rattle.algebra.specs.Array.{cut, used, padRow, pad}
 use Rattle.algebra.proofs.Arrays.{cut-padRow, used-pad}
-use Rattle.matrix.specs.declared.Size.{Size}
+use Rattle.sizes.specs.declared.Size.{Size}
 use Rattle.matrix.specs.declared.VectorResult.{VectorResult}
-use Rattle.matrix.specs.Size.{sizeOf, count}
-use Rattle.matrix.proofs.Sizes.{is-count}
+use Rattle.sizes.specs.Size.{sizeOf, count}
+use Rattle.sizes.proofs.Sizes.{is-count}
 use Rattle.matrix.proofs.Results.{done-not-refused}
 use Rattle.filtering.specs.Filter.{Motion, Sensor, Estimate, estimate, predictedState, predictedCovariance}
 use Rattle.filtering.specs.Linear.{predict, update}

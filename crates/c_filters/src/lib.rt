@@ -13,11 +13,11 @@ ghost use Rattle.layout.specs.Layout.{joined};
 ghost use Rattle.c_filters.specs.Filter.{estimatePlace, isFilter, isStep, isStepWith, isParts, isRoad, roadIn, withEstimate, predictIn, updateIn, newIn, resetIn, stateIn, covarianceIn, filterNumbers, trackerIn};
 use answer::Status;
 use matrix::ScalarResult;
-use matrix::both;
-use matrix::size_of;
 use road::Pair;
 use road::Road;
 use road::Two;
+use sizes::both;
+use sizes::size_of;
 
 // ---- sizes and places
 

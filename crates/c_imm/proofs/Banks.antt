@@ -17,9 +17,9 @@ use Rattle.answer.proofs.Tables.{getD-table, getD-padTo, table-ext, length-tabl
 use Rattle.algebra.specs.Matrix.{Vector, Matrix, at, row}
 use Rattle.algebra.specs.Array.{cut, used, padRow, pad}
 use Rattle.algebra.proofs.Arrays.{cut-padRow, used-pad}
-use Rattle.matrix.specs.declared.Size.{Size}
-use Rattle.matrix.specs.Size.{count}
-use Rattle.matrix.proofs.Sizes.{bounds, bounds-of}
+use Rattle.sizes.specs.declared.Size.{Size}
+use Rattle.sizes.specs.Size.{count}
+use Rattle.sizes.proofs.Sizes.{bounds, bounds-of}
 use Rattle.filtering.specs.Filter.{Estimate, estimate}
 use Rattle.filtering.proofs.Shapes.{Sized}
 use Rattle.mixing.specs.Mixing.{Bank, model, uniform}

@@ -15,8 +15,8 @@ use Rattle.answer.proofs.Tables.{getD-table, length-table}
 use Rattle.algebra.specs.Matrix.{row}
 use Rattle.algebra.specs.Array.{cut, used, padRow}
 use Rattle.algebra.proofs.Arrays.{cut-padRow}
-use Rattle.matrix.specs.declared.Size.{Size}
-use Rattle.matrix.specs.Size.{count}
+use Rattle.sizes.specs.declared.Size.{Size}
+use Rattle.sizes.specs.Size.{count}
 use Rattle.filtering.specs.Filter.{Estimate, estimate}
 use Rattle.mixing.specs.Mixing.{Bank, model, uniform}
 use Rattle.layout.specs.Layout.{joined, placed, putAt, offset, modelLength, bankParts}

@@ -14,9 +14,9 @@ use Rattle.algebra.specs.Matrix.{Vector, Matrix, at, row, sumOf}
 use Rattle.algebra.specs.Array.{cut, used, padRow, pad}
 use Rattle.algebra.proofs.Matrices.{shape-mat}
 use Rattle.algebra.proofs.Arrays.{cut-padRow, used-pad}
-use Rattle.matrix.specs.declared.Size.{Size}
-use Rattle.matrix.specs.Size.{count, part}
-use Rattle.matrix.proofs.Sizes.{bounds}
+use Rattle.sizes.specs.declared.Size.{Size}
+use Rattle.sizes.specs.Size.{count, part}
+use Rattle.sizes.proofs.Sizes.{bounds}
 use Rattle.filtering.specs.Filter.{Estimate, estimate}
 use Rattle.filtering.proofs.Shapes.{Sized}
 use Rattle.mixing.specs.Mixing.{Bank, model, uniform, predicted, weighted, weights, mixedCovariance, mixedEstimate, mixEstimates, updateProbabilities, fusedEstimate}

@@ -7,19 +7,19 @@ ghost use mathlib.Core.List.{[], _++_};
 ghost use Prim.Native.Nat.{_+_, _*_, _≤_};
 ghost use lib.ListN.{length};
 ghost use Rattle.answer.specs.Told.{given};
-ghost use Rattle.matrix.specs.Size.{count};
+ghost use Rattle.sizes.specs.Size.{count};
 ghost use Rattle.layout.specs.Layout.{joined, placed, total, modelLength, bankParts};
 ghost use Rattle.steps.specs.Step.{wellSized};
 ghost use Rattle.road.specs.Road.{matrixOf, estimateOf};
 ghost use Rattle.imm_steps.specs.Bank.{bankRows};
 ghost use Rattle.c_imm.specs.Bank.{modelPlace, probabilitiesPlace, isBank, isParts, isRoads, statesIn, covariancesIn, likelihoodsIn, roadsIn, withEstimates, withBank, mixedIn};
 ghost use Rattle.c_imm.specs.Bank.{mixIn, probabilitiesIn, fusedIn, probabilityIn, newIn};
-use matrix::Size;
-use matrix::both;
-use matrix::number;
-use matrix::size_of;
 use road::Pair;
 use road::Two;
+use sizes::Size;
+use sizes::both;
+use sizes::number;
+use sizes::size_of;
 
 // Two models of one road: their estimates, and the transition.
 struct RoadBank {

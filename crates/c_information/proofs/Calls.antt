@@ -17,10 +17,10 @@ use Rattle.algebra.specs.Inverse.{inv}
 use Rattle.algebra.proofs.Inverses.{inv-shape}
 use Rattle.algebra.proofs.Matrices.{Shape}
 use Rattle.algebra.proofs.Arrays.{cut-padRow, used-pad}
-use Rattle.matrix.specs.declared.Size.{Size}
+use Rattle.sizes.specs.declared.Size.{Size}
 use Rattle.matrix.specs.declared.MatrixResult.{MatrixResult}
 use Rattle.matrix.specs.declared.VectorResult.{VectorResult}
-use Rattle.matrix.specs.Size.{sizeOf, count, part, front}
+use Rattle.sizes.specs.Size.{sizeOf, count, part, front}
 use Rattle.matrix.specs.Result.{asMatrix, asVector}
 use Rattle.filtering.specs.Filter.{Motion, Sensor, Estimate, estimate, innovation}
 use Rattle.filtering.specs.Information.{Information, ofEstimate, covariance, state, predict, informed, update}

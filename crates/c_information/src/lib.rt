@@ -11,8 +11,8 @@ use c_filters::is_filter;
 use c_filters::is_parts;
 use c_filters::is_step;
 use information_steps::update_by;
-use matrix::both;
-use matrix::size_of;
+use sizes::both;
+use sizes::size_of;
 
 // ---- the steps
 

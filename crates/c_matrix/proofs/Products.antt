@@ -11,9 +11,9 @@ use Rattle.answer.specs.Table.{table}
 use Rattle.answer.proofs.Tables.{getD-table, table-ext}
 use Rattle.algebra.specs.Matrix.{Vector, Matrix, at, row, cell, sumOf, mul}
 use Rattle.algebra.specs.Array.{cut, used, padRow}
-use Rattle.matrix.specs.Kernel.{rowTimes}
-use Rattle.matrix.proofs.Sizes.{Bounds}
-use Rattle.matrix.proofs.RowWise.{RowOf, row-of-product, row-renamed}
+use Rattle.rows.specs.Row.{rowTimes}
+use Rattle.sizes.proofs.Sizes.{Bounds}
+use Rattle.rows.proofs.RowWise.{RowOf, row-of-product, row-renamed}
 use Rattle.layout.specs.Layout.{vectorAt, vectorIn, matrixAt}
 use Rattle.layout.proofs.Rows.{ends-within}
 use Rattle.layout.proofs.Calls.{vector-used}

@@ -19,9 +19,9 @@ use Rattle.matrix.specs.declared.MatrixResult.{MatrixResult}
 use Rattle.matrix.specs.declared.ScalarResult.{ScalarResult}
 use Rattle.matrix.specs.declared.TestResult.{TestResult}
 use Rattle.matrix.specs.Result.{asMatrix, asScalar, asTest}
-use Rattle.matrix.specs.declared.Size.{Size}
-use Rattle.matrix.specs.Size.{count, sizeOf, sized, shaped, alike, paired}
-use Rattle.matrix.proofs.Sizes.{sizes-of, is-count}
+use Rattle.sizes.specs.declared.Size.{Size}
+use Rattle.sizes.specs.Size.{count, sizeOf, sized, shaped, alike, paired}
+use Rattle.sizes.proofs.Sizes.{sizes-of, is-count}
 use Rattle.layout.specs.Layout.{joined, matrixIn, vectorIn, putAt}
 use Rattle.layout.proofs.Places.{placed-whole}
 use Rattle.layout.proofs.Rows.{whole-vector}

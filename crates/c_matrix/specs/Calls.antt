@@ -12,7 +12,7 @@ use Rattle.algebra.specs.Matrix.{cell, zeros, filled, identity, setCell, transp
 use Rattle.algebra.specs.Matrix.{matvec, outer, vecAdd, vecSub, vecScale, dot, vecNorm}
 use Rattle.algebra.specs.Inverse.{inv}
 use Rattle.algebra.specs.Cholesky.{cholesky}
-use Rattle.matrix.specs.Size.{inside}
+use Rattle.sizes.specs.Size.{inside}
 use Rattle.layout.specs.Layout.{joined}
 use Rattle.c_matrix.specs.Slices.{isMatrix, isVector, rows}
 

@@ -5,7 +5,7 @@ use mathlib.Core.Bool.{Bool, _&&_}
 use lib.Dec.{eqb}
 use lib.Ieee.{Float}
 use Rattle.algebra.specs.Matrix.{Matrix}
-use Rattle.matrix.specs.Size.{shaped}
+use Rattle.sizes.specs.Size.{shaped}
 use Rattle.layout.specs.Layout.{matrixAt}
 
 -- a slice of k numbers is just r rows of c numbers, r and c sizes

@@ -51,7 +51,7 @@ pub fn matrix_identity(n: usize, out: &mut [f64]) -> u8
 pub fn matrix_get(r: usize, c: usize, i: usize, j: usize, a: &[f64], out: &mut f64) -> u8
     ensures { λ t. ⌜ (t, now (out .exit)) ≡ given (now (out .entry)) (getIn r c i j (now (a .entry))) ⌝ }
 {
-    if matrix::both(is_matrix(r, c, a.len()), matrix::is_inside(r, c, i, j)) {
+    if sizes::both(is_matrix(r, c, a.len()), sizes::is_inside(r, c, i, j)) {
         let x = rows_in(a, r, c);
         give_scalar(out, elementwise::get(x, r, c, i, j))
     } else {
@@ -71,9 +71,9 @@ pub fn matrix_set(
 ) -> u8
     ensures { λ t. ⌜ (t, now (out .exit)) ≡ given (now (out .entry)) (setIn r c i j (now (a .entry)) val (length (now (out .entry)))) ⌝ }
 {
-    if matrix::both(
+    if sizes::both(
         are_two_matrices(r, c, a.len(), r, c, out.len()),
-        matrix::is_inside(r, c, i, j),
+        sizes::is_inside(r, c, i, j),
     ) {
         let x = rows_in(a, r, c);
         give_matrix(out, elementwise::set(x, r, c, i, j, val), r, c)

@@ -23,7 +23,7 @@ pub mod numbers;
 pub fn is_matrix(r: usize, c: usize, len: usize) -> bool
     ensures { λ t. ⌜ t ≡ isMatrix r c len ⌝ }
 {
-    if matrix::is_shape(r, c) {
+    if sizes::is_shape(r, c) {
         len == r * c
     } else {
         false
@@ -34,7 +34,7 @@ pub fn is_matrix(r: usize, c: usize, len: usize) -> bool
 pub fn are_two_matrices(r: usize, c: usize, len: usize, p: usize, q: usize, len2: usize) -> bool
     ensures { λ t. ⌜ t ≡ isMatrix r c len && isMatrix p q len2 ⌝ }
 {
-    matrix::both(is_matrix(r, c, len), is_matrix(p, q, len2))
+    sizes::both(is_matrix(r, c, len), is_matrix(p, q, len2))
 }
 
 // The same of three.
@@ -51,7 +51,7 @@ pub fn are_three_matrices(
 ) -> bool
     ensures { λ t. ⌜ t ≡ isMatrix r c len && (isMatrix p q len2 && isMatrix x y len3) ⌝ }
 {
-    matrix::both(
+    sizes::both(
         is_matrix(r, c, len),
         are_two_matrices(p, q, len2, x, y, len3),
     )
@@ -62,7 +62,7 @@ pub fn are_three_matrices(
 fn rows_in(a: &[f64], r: usize, c: usize) -> [[f64; 4]; 4]
     ensures { λ x. ⌜ (isMatrix r c (length (now (a .entry))) ≡ true → used r c x ≡ rows r c (now (a .entry))) ⌝ }
 {
-    layout::matrix_at(a, 0, matrix::size_of(r), matrix::size_of(c))
+    layout::matrix_at(a, 0, sizes::size_of(r), sizes::size_of(c))
 }
 
 // The number that is told; a refusal writes nothing.
@@ -73,7 +73,7 @@ pub fn give_matrix(out: &mut [f64], m: MatrixResult, r: usize, c: usize) -> u8
     match status {
         Status::Done => {
             let rows = matrix::rows_of(m);
-            layout::put_matrix(out, 0, &rows, matrix::size_of(r), matrix::size_of(c));
+            layout::put_matrix(out, 0, &rows, sizes::size_of(r), sizes::size_of(c));
             0
         }
         Status::Refused(number) => number,

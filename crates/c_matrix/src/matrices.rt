@@ -5,7 +5,7 @@ ghost use Prim.Native.Nat.{_*_};
 ghost use lib.ListN.{length};
 ghost use Rattle.answer.specs.Told.{given};
 ghost use Rattle.c_matrix.specs.Calls.{transposeIn, scaleIn, negIn, frobNormIn, traceIn, invIn, choleskyIn};
-ghost use Rattle.matrix.specs.Size.{count};
+ghost use Rattle.sizes.specs.Size.{count};
 ghost use Rattle.c_matrix.specs.Calls.{addIn, subIn, eqIn, productIn, mulIn};
 use crate::are_three_matrices;
 use crate::are_two_matrices;
@@ -19,10 +19,9 @@ use layout::matrix_at;
 use layout::put_matrix;
 use layout::put_vector;
 use layout::vector_at;
-use matrix::Size;
-use matrix::kernel;
-use matrix::number;
-use matrix::size_of;
+use sizes::Size;
+use sizes::number;
+use sizes::size_of;
 
 // ---- one matrix
 
@@ -34,7 +33,7 @@ pub fn matrix_transpose(r: usize, c: usize, a: &[f64], out: &mut [f64]) -> u8
         let rows = size_of(r);
         let cols = size_of(c);
         let x = matrix_at(a, 0, rows, cols);
-        let z = kernel::transposed(&x, rows, cols);
+        let z = rows::transposed(&x, rows, cols);
         put_matrix(out, 0, &z, cols, rows);
         0
     } else {
@@ -176,7 +175,7 @@ fn put_product(out: &mut [f64], a: &[f64], b: &[f64], r: Size, k: Size, c: Size)
     let b3 = vector_at(b, 3 * width, c);
     for i in 0..height {
         let v = vector_at(a, i * inner, k);
-        let p = kernel::combination(v, b0, b1, b2, b3, k);
+        let p = rows::combination(v, b0, b1, b2, b3, k);
         put_vector(out, i * width, p, c);
     }
 }

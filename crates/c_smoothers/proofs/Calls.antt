@@ -14,9 +14,9 @@ use Rattle.answer.specs.Told.{given, statusNumber}
 use Rattle.answer.proofs.Choice.{and-left, and-right}
 use Rattle.algebra.specs.Matrix.{Matrix}
 use Rattle.algebra.specs.Array.{used, pad}
-use Rattle.matrix.specs.declared.Size.{Size}
-use Rattle.matrix.specs.Size.{sized, sizeOf, count}
-use Rattle.matrix.proofs.Sizes.{is-count}
+use Rattle.sizes.specs.declared.Size.{Size}
+use Rattle.sizes.specs.Size.{sized, sizeOf, count}
+use Rattle.sizes.proofs.Sizes.{is-count}
 use Rattle.layout.specs.Layout.{matrixAt, matrixIn, placed, putAt, pairLength, stride}
 use Rattle.layout.proofs.Places.{placed-whole, then-placed}
 use Rattle.layout.proofs.Rows.{ends-within}

@@ -6,7 +6,7 @@ use lib.Dec.{leb, eqb}
 use lib.ListN.{length, take, drop}
 use lib.Ieee.{Float}
 use Rattle.answer.specs.Answer.{Answer, mapped, refused-if, if-sized}
-use Rattle.matrix.specs.Size.{sized}
+use Rattle.sizes.specs.Size.{sized}
 use Rattle.layout.specs.Layout.{matrixAt, placed, pairLength, stride}
 use Rattle.smoothing.specs.Smoother.{smooth}
 use Rattle.duty.specs.Buffer.{dutyOf, outputOf, buffered}

@@ -12,8 +12,8 @@ ghost use Rattle.c_smoothers.specs.Call.{duty, run};
 ghost use Rattle.c_smoothers.specs.Smoother.{isPairs, isSquare, storeIn, slotIn, smoothIn};
 use duty::is_buffered;
 use duty::stride_of;
-use matrix::both;
-use matrix::size_of;
+use sizes::both;
+use sizes::size_of;
 
 // ---- sizes
 
@@ -22,7 +22,7 @@ fn is_pairs(n: usize, k: usize, len: usize) -> bool
     requires { ⌜ k ≤ 2 ⌝ }
     ensures { λ t. ⌜ t ≡ isPairs n k len ⌝ }
 {
-    if matrix::is_size(n) {
+    if sizes::is_size(n) {
         len == k * (n + n * n)
     } else {
         false
@@ -33,7 +33,7 @@ fn is_pairs(n: usize, k: usize, len: usize) -> bool
 fn is_square(n: usize, len: usize) -> bool
     ensures { λ t. ⌜ t ≡ isSquare n len ⌝ }
 {
-    if matrix::is_size(n) {
+    if sizes::is_size(n) {
         len == n * n
     } else {
         false

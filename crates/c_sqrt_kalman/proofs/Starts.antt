@@ -15,8 +15,8 @@ use Rattle.algebra.specs.Cholesky.{cholesky}
 use Rattle.algebra.proofs.Matrices.{Shape, shape-mul}
 use Rattle.algebra.proofs.Arrays.{used-pad}
 use Rattle.algebra.proofs.Factors.{shape-cholesky}
-use Rattle.matrix.specs.declared.Size.{Size}
-use Rattle.matrix.specs.Size.{count}
+use Rattle.sizes.specs.declared.Size.{Size}
+use Rattle.sizes.specs.Size.{count}
 use Rattle.filtering.specs.Filter.{estimate}
 use Rattle.filtering.specs.SquareRoot.{factored, ofEstimate, covariance}
 use Rattle.layout.specs.Layout.{vectorAt, matrixAt, vectorIn, matrixIn, joined, placed, putAt, total, offset, rootParts}

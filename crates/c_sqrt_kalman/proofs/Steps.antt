@@ -16,11 +16,11 @@ use Rattle.algebra.specs.Matrix.{Vector, Matrix}
 use Rattle.algebra.specs.Array.{cut, used, padRow, pad}
 use Rattle.algebra.proofs.Matrices.{Shape, shape-mat}
 use Rattle.algebra.proofs.Arrays.{cut-padRow, used-pad}
-use Rattle.matrix.specs.declared.Size.{Size}
+use Rattle.sizes.specs.declared.Size.{Size}
 use Rattle.matrix.specs.declared.VectorResult.{VectorResult}
-use Rattle.matrix.specs.Size.{sizeOf, count}
+use Rattle.sizes.specs.Size.{sizeOf, count}
 use Rattle.matrix.specs.Result.{asVector}
-use Rattle.matrix.proofs.Sizes.{is-count}
+use Rattle.sizes.proofs.Sizes.{is-count}
 use Rattle.matrix.proofs.Results.{done-not-refused}
 use Rattle.filtering.specs.SquareRoot.{Factored, factored, predict, update}
 use Rattle.layout.specs.Layout.{vectorAt, matrixAt, vectorIn, matrixIn, joined, placed, putAt, rootParts}

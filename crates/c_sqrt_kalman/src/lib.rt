@@ -11,8 +11,8 @@ ghost use Rattle.steps.specs.Step.{wellSized};
 ghost use Rattle.layout.specs.Layout.{joined, placed};
 ghost use Rattle.c_sqrt_kalman.specs.Root.{statePlace, isFilter, isStep, isParts, predictIn, updateIn, newIn, fromCholeskyIn, resetIn, stateIn, covarianceIn, factorIn};
 use answer::Status;
-use matrix::both;
-use matrix::size_of;
+use sizes::both;
+use sizes::size_of;
 
 // ---- sizes and places
 

@@ -15,14 +15,13 @@ use c_matrix::is_matrix;
 use layout::matrix_at;
 use layout::put_vector;
 use layout::vector_at;
-use matrix::kernel;
-use matrix::size_of;
+use sizes::size_of;
 
 // What a slice holds, where it has passed the test.
 fn numbers_in(v: &[f64], n: usize) -> [f64; 4]
     ensures { λ x. ⌜ (isVector n (length (now (v .entry))) ≡ true → cut n x ≡ now (v .entry)) ⌝ }
 {
-    layout::vector_at(v, 0, matrix::size_of(n))
+    layout::vector_at(v, 0, sizes::size_of(n))
 }
 
 // r rows and c columns times a vector of c numbers.
@@ -88,7 +87,7 @@ pub fn matrix_vec_scale(n: usize, v: &[f64], s: f64, out: &mut [f64]) -> u8
     if are_two_matrices(n, 1, v.len(), n, 1, out.len()) {
         let size = size_of(n);
         let x = vector_at(v, 0, size);
-        put_vector(out, 0, kernel::row_scaled(x, s), size);
+        put_vector(out, 0, rows::row_scaled(x, s), size);
         0
     } else {
         1

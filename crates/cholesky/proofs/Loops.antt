@@ -19,7 +19,7 @@ use Rattle.algebra.proofs.Matrices.{Shape}
 use Rattle.algebra.proofs.Vectors.{dot-ext}
 use Rattle.algebra.specs.Cholesky.{diagonalOf, leftCells, factorRow, factorRows, cholesky}
 use Rattle.algebra.proofs.Arrays.{set-pad, cell-pad}
-use Rattle.matrix.proofs.Kernels.{row-with}
+use Rattle.rows.proofs.Kernels.{row-with}
 use Rattle.algebra.proofs.Factors.{length-left, left-ext, shape-rows, cholesky-used}
 
 -- The loop over a row has made the first j of its i cells left of the diagonal: its invariant

@@ -3,16 +3,15 @@
 use answer::Status;
 use matrix::MatrixResult;
 use matrix::ScalarResult;
-use matrix::Size;
-use matrix::kernel;
 use scalar::ControlScalar;
+use sizes::Size;
 ghost use mathlib.Core.Path.{_≡_};
 ghost use Prim.Native.Nat.{_<_};
 ghost use Rattle.answer.specs.Answer.{if-sized};
 ghost use Rattle.algebra.specs.Matrix.{row};
 ghost use Rattle.algebra.specs.Array.{used, padRow};
 ghost use Rattle.algebra.specs.Cholesky.{noDiagonal, diagonalOf, leftCells, cholesky as choleskyOf};
-ghost use Rattle.matrix.specs.Size.{count, part, sized};
+ghost use Rattle.sizes.specs.Size.{count, part, sized};
 ghost use Rattle.matrix.specs.Result.{asMatrix, asScalar};
 
 // What is left of a diagonal cell is at or below zero. A NaN is not.
@@ -50,14 +49,14 @@ fn left_cells<'a>(a: &'a [[f64; 4]; 4], l: &'a [[f64; 4]; 4], i: usize) -> [f64;
 pub fn factor_of(a: &[[f64; 4]; 4], n: Size) -> MatrixResult
     ensures { λ r. ⌜ r ≡ asMatrix (choleskyOf (count n) (part n n (now (a .entry)))) ⌝ }
 {
-    let rows = matrix::number(n);
+    let rows = sizes::number(n);
     let mut l = [[0.0; 4]; 4];
     for i in 0..rows {
         let v = left_cells(a, &l, i);
         let d = a[i][i] - kernel::dot(&v, &v, i);
         match diagonal_root(d) {
             ScalarResult::Value(x) => {
-                l[i] = kernel::row_with(v, i, x);
+                l[i] = rows::row_with(v, i, x);
             }
             ScalarResult::Refused(number) => return matrix::matrix_refused(number),
         }
@@ -69,8 +68,8 @@ pub fn factor_of(a: &[[f64; 4]; 4], n: Size) -> MatrixResult
 pub fn cholesky(a: [[f64; 4]; 4], n: usize) -> MatrixResult
     ensures { λ r. ⌜ r ≡ asMatrix (if-sized (sized n) (choleskyOf n (used n n a))) ⌝ }
 {
-    if matrix::is_size(n) {
-        factor_of(&a, matrix::size_of(n))
+    if sizes::is_size(n) {
+        factor_of(&a, sizes::size_of(n))
     } else {
         matrix::matrix_refused(1)
     }

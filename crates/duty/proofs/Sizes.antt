@@ -7,8 +7,8 @@ use native.Mathlib.Omega.{arith}
 use lib.Dec.{leb}
 use borrow.Author.Tests.{leb-true, eqb-true}
 use Rattle.answer.proofs.Choice.{cond-true, and-left, and-right}
-use Rattle.matrix.specs.Size.{sized}
-use Rattle.matrix.proofs.Sizes.{Bounds, bounds-of}
+use Rattle.sizes.specs.Size.{sized}
+use Rattle.sizes.proofs.Sizes.{Bounds, bounds-of}
 use Rattle.layout.specs.Layout.{pairLength, stride}
 use Rattle.layout.proofs.Rows.{ends-within}
 use Rattle.duty.specs.Buffer.{roomy, counted, buffered}

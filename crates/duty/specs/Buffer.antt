@@ -7,7 +7,7 @@ use lib.Ieee.{Float}
 use Rattle.scalar.specs.Number.{+0}
 use Rattle.answer.specs.Table.{table, padTo}
 use Rattle.algebra.specs.Matrix.{Matrix}
-use Rattle.matrix.specs.Size.{sized}
+use Rattle.sizes.specs.Size.{sized}
 use Rattle.layout.specs.Layout.{vectorAt, matrixAt, joined, pairLength, stride}
 use Rattle.filtering.specs.Filter.{Estimate}
 use Rattle.smoothing.specs.Smoother.{Slot, Duty}

@@ -2,11 +2,11 @@
 // state, covariance by rows, predicted state, predicted covariance; a smoothed pair is n + n² numbers.
 ghost use mathlib.Core.Path.{_≡_};
 ghost use mathlib.Core.Bool.{cond};
-ghost use Rattle.matrix.specs.Size.{sized};
+ghost use Rattle.sizes.specs.Size.{sized};
 ghost use Rattle.layout.specs.Layout.{stride};
 ghost use Rattle.duty.specs.Buffer.{roomy, counted, buffered, smoothable};
-use matrix::both;
 use scalar::ControlScalar;
+use sizes::both;
 
 // Room for 1 to 64 slots.
 fn is_room(room: usize) -> bool
@@ -19,14 +19,14 @@ fn is_room(room: usize) -> bool
 pub fn is_counted(n: usize, room: usize, count: usize) -> bool
     ensures { λ t. ⌜ t ≡ counted n room count ⌝ }
 {
-    both(matrix::is_size(n), both(is_room(room), count <= room))
+    both(sizes::is_size(n), both(is_room(room), count <= room))
 }
 
 // How many numbers a slot takes; 0 where n is no size.
 pub fn stride_of(n: usize) -> usize
     ensures { λ r. ⌜ r ≡ cond (sized n) (stride n) 0 ⌝ }
 {
-    if matrix::is_size(n) {
+    if sizes::is_size(n) {
         2 * n + 2 * (n * n)
     } else {
         0

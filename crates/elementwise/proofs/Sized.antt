@@ -9,11 +9,11 @@ use Rattle.answer.specs.declared.Status.the-variants.{Done}
 use Rattle.answer.specs.Answer.{Answer, answered, where-sized}
 use Rattle.algebra.specs.Matrix.{Matrix}
 use Rattle.algebra.specs.Array.{used, pad}
-use Rattle.matrix.specs.declared.Size.{Size}
+use Rattle.sizes.specs.declared.Size.{Size}
 use Rattle.matrix.specs.declared.MatrixResult.{MatrixResult}
-use Rattle.matrix.specs.Size.{count, sizeOf, sized, shaped, inside}
+use Rattle.sizes.specs.Size.{count, sizeOf, sized, shaped, inside}
 use Rattle.matrix.specs.Result.{matrixResult, asMatrix}
-use Rattle.matrix.proofs.Sizes.{Sizes, sizes-of, inside-sizes, bounds-of, is-count}
+use Rattle.sizes.proofs.Sizes.{Sizes, sizes-of, inside-sizes, bounds-of, is-count}
 use Rattle.matrix.proofs.Results.{as-answered}
 
 -- g makes the call's result y of an answer, and t is the test of its sizes

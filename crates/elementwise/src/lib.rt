@@ -3,18 +3,17 @@
 use answer::Status;
 use matrix::MatrixResult;
 use matrix::ScalarResult;
-use matrix::Size;
 use matrix::TestResult;
-use matrix::is_alike;
-use matrix::is_inside;
-use matrix::is_shape;
-use matrix::is_size;
-use matrix::kernel;
 use matrix::matrix_refused;
 use matrix::matrix_result;
-use matrix::number;
-use matrix::size_of;
 use scalar::ControlScalar;
+use sizes::Size;
+use sizes::is_alike;
+use sizes::is_inside;
+use sizes::is_shape;
+use sizes::is_size;
+use sizes::number;
+use sizes::size_of;
 ghost use mathlib.Core.Path.{_≡_};
 ghost use lib.Ieee.{eq};
 ghost use Rattle.scalar.specs.Number.{_⊗_};
@@ -23,7 +22,7 @@ ghost use Rattle.algebra.specs.Matrix.{at, cell, zeros, filled, identity, trans
 ghost use Rattle.algebra.specs.Matrix.{setCell, sumFrom, squares, frobNorm, trace, every, equal};
 ghost use Rattle.algebra.specs.Array.{used, usedFlat};
 ghost use Rattle.matrix.specs.Result.{asMatrix, asScalar, asTest};
-ghost use Rattle.matrix.specs.Size.{count, part, sized, shaped, alike, inside};
+ghost use Rattle.sizes.specs.Size.{count, part, sized, shaped, alike, inside};
 ghost use Rattle.elementwise.specs.Record.{recordOf, madeOf};
 
 // ---- a matrix as a record
@@ -48,7 +47,7 @@ fn part_of(a: &[[f64; 4]; 4], r: usize, c: usize) -> MatrixResult
     if is_shape(r, c) {
         let rows = size_of(r);
         let cols = size_of(c);
-        matrix_result(Status::Done, kernel::used_part(a, rows, cols))
+        matrix_result(Status::Done, rows::used_part(a, rows, cols))
     } else {
         matrix_refused(1)
     }
@@ -125,7 +124,7 @@ pub fn transpose(a: [[f64; 4]; 4], r: usize, c: usize) -> MatrixResult
     if is_shape(r, c) {
         let rows = size_of(r);
         let cols = size_of(c);
-        matrix_result(Status::Done, kernel::transposed(&a, rows, cols))
+        matrix_result(Status::Done, rows::transposed(&a, rows, cols))
     } else {
         matrix_refused(1)
     }
@@ -175,10 +174,10 @@ pub fn sub_mat(
 fn scaled(a: &[[f64; 4]; 4], s: f64) -> [[f64; 4]; 4]
     ensures { λ p. ⌜ p ≡ scale 4 4 (now (a .entry)) s ⌝ }
 {
-    let r0 = kernel::row_scaled(a[0], s);
-    let r1 = kernel::row_scaled(a[1], s);
-    let r2 = kernel::row_scaled(a[2], s);
-    let r3 = kernel::row_scaled(a[3], s);
+    let r0 = rows::row_scaled(a[0], s);
+    let r1 = rows::row_scaled(a[1], s);
+    let r2 = rows::row_scaled(a[2], s);
+    let r3 = rows::row_scaled(a[3], s);
     [r0, r1, r2, r3]
 }
 
@@ -215,7 +214,7 @@ pub fn set(a: [[f64; 4]; 4], r: usize, c: usize, i: usize, j: usize, val: f64) -
     if is_inside(r, c, i, j) {
         let rows = size_of(r);
         let cols = size_of(c);
-        let mut out = kernel::used_part(&a, rows, cols);
+        let mut out = rows::used_part(&a, rows, cols);
         out[i][j] = val;
         matrix_result(Status::Done, out)
     } else {

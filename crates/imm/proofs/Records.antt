@@ -10,9 +10,9 @@ use Rattle.answer.proofs.Tables.{getD-table, table-ext}
 use Rattle.algebra.specs.Matrix.{Vector, Matrix, at, row}
 use Rattle.algebra.specs.Array.{cut, used, usedFlat, rowsOfFlat}
 use Rattle.algebra.proofs.Arrays.{used-rowsOfFlat}
-use Rattle.matrix.specs.declared.Size.{Size}
-use Rattle.matrix.specs.Size.{count, front, part}
-use Rattle.matrix.proofs.Sizes.{bounds}
+use Rattle.sizes.specs.declared.Size.{Size}
+use Rattle.sizes.specs.Size.{count, front, part}
+use Rattle.sizes.proofs.Sizes.{bounds}
 use Rattle.filtering.specs.Filter.{Estimate, estimate}
 use Rattle.mixing.specs.Mixing.{Bank}
 use Rattle.imm_steps.specs.Bank.{bankRows, rowsOf}

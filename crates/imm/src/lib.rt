@@ -6,8 +6,7 @@ ghost use Rattle.imm.specs.Record.{newOf, mixOf, probabilitiesOf, fusedO
 use answer::Status;
 use matrix::ScalarResult;
 use matrix::VectorResult;
-use matrix::kernel;
-use matrix::size_of;
+use sizes::size_of;
 use steps::is_well_sized;
 
 // A model of n states: transition a (n by n), state x_hat, covariance p (n by n), process noise q (n by n), and the likelihood of

@@ -5,9 +5,9 @@ ghost use mathlib.Core.List.{[], _∷_};
 ghost use Rattle.road.specs.Road.{matrixOf, estimateOf};
 ghost use Rattle.mixing.specs.Mixing.{mixedEstimate, mixEstimates};
 ghost use Rattle.imm_road.specs.Road.{bankOf, sharesOf};
-use matrix::kernel::pick;
 use road::Pair;
 use road::Two;
+use rows::pick;
 use scalar::ControlScalar;
 
 // The weights of the first and of the second model.

@@ -14,9 +14,9 @@ use Rattle.algebra.specs.Matrix.{Vector, Matrix, at, row, cell, mat, sumOf, vec
 use Rattle.algebra.specs.Array.{cut, used}
 use Rattle.algebra.proofs.Matrices.{sum-ext, cell-mat, mat-ext}
 use Rattle.algebra.proofs.Arrays.{at-cut, cell-used}
-use Rattle.matrix.specs.declared.Size.{Size}
-use Rattle.matrix.specs.declared.Size.the-variants.{One, Two, Three, Four}
-use Rattle.matrix.specs.Size.{count}
+use Rattle.sizes.specs.declared.Size.{Size}
+use Rattle.sizes.specs.declared.Size.the-variants.{One, Two, Three, Four}
+use Rattle.sizes.specs.Size.{count}
 use Rattle.filtering.specs.Filter.{Estimate, estimate}
 use Rattle.mixing.specs.Mixing.{Bank, model, uniform, predicted, weights, weighted, spread, mixedCovariance, updateProbabilities}
 use Rattle.imm_steps.specs.Bank.{spreadCell}

@@ -5,8 +5,8 @@ use Prim.Native.Nat.{ℕ}
 use lib.Ieee.{Float}
 use Rattle.algebra.specs.Matrix.{Vector, Matrix}
 use Rattle.algebra.specs.Array.{cut}
-use Rattle.matrix.specs.declared.Size.{Size}
-use Rattle.matrix.specs.Size.{count, front, part}
+use Rattle.sizes.specs.declared.Size.{Size}
+use Rattle.sizes.specs.Size.{count, front, part}
 use Rattle.filtering.specs.Filter.{Estimate}
 use Rattle.mixing.specs.Mixing.{Bank, weighted, mixedCovariance, mixedEstimate, mixEstimates, updateProbabilities, fusedEstimate}
 use Rattle.imm_steps.specs.Bank.{bankRows, rowsOf}

@@ -11,9 +11,9 @@ use Rattle.answer.proofs.Tables.{getD-padTo, length-table, Filling, filling-all
 use Rattle.algebra.specs.Matrix.{Vector, Matrix, at, cell, sumOf}
 use Rattle.algebra.specs.Array.{cut, used, padRow, pad}
 use Rattle.algebra.proofs.Arrays.{cut-padRow}
-use Rattle.matrix.specs.declared.Size.{Size}
-use Rattle.matrix.specs.Size.{count, front, part}
-use Rattle.matrix.proofs.Sizes.{bounds}
+use Rattle.sizes.specs.declared.Size.{Size}
+use Rattle.sizes.specs.Size.{count, front, part}
+use Rattle.sizes.proofs.Sizes.{bounds}
 use Rattle.filtering.specs.Filter.{Estimate}
 use Rattle.mixing.specs.Mixing.{Bank, predicted, weights, weighted, mixedCovariance, mixedEstimate, mixEstimates}
 use Rattle.imm_steps.specs.Bank.{bankRows, rowsOf}

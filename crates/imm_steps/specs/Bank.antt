@@ -7,8 +7,8 @@ use Rattle.scalar.specs.Number.{_⊕_, _⊗_, +0}
 use Rattle.answer.specs.Table.{table}
 use Rattle.algebra.specs.Matrix.{row, cell}
 use Rattle.algebra.specs.Array.{padRow, pad}
-use Rattle.matrix.specs.declared.Size.{Size}
-use Rattle.matrix.specs.Size.{count, front, part}
+use Rattle.sizes.specs.declared.Size.{Size}
+use Rattle.sizes.specs.Size.{count, front, part}
 use Rattle.filtering.specs.Filter.{estimate}
 use Rattle.mixing.specs.Mixing.{Bank, model, mixEstimates}
 

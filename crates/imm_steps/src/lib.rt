@@ -10,15 +10,14 @@ ghost use Rattle.scalar.specs.Number.{_⊗_, _⊘_, +0, epsilon};
 ghost use Rattle.answer.specs.Table.{table};
 ghost use Rattle.algebra.specs.Matrix.{at, row, cell, sumOf, vecSub};
 ghost use Rattle.algebra.specs.Array.{padRow, pad};
-ghost use Rattle.matrix.specs.Size.{count, front, part};
+ghost use Rattle.sizes.specs.Size.{count, front, part};
 ghost use Rattle.mixing.specs.Mixing.{uniform as uniformOf, predicted as predictedOf, weighted as weightedOf, mixedCovariance};
 ghost use Rattle.mixing.specs.Mixing.{updateProbabilities};
 ghost use Rattle.imm_steps.specs.Bank.{bankRows, mixedRows, spreadCell};
-use matrix::Size;
-use matrix::kernel;
-use matrix::kernel::pick;
-use matrix::number;
+use rows::pick;
 use scalar::ControlScalar;
+use sizes::Size;
+use sizes::number;
 
 // ---- probabilities
 
@@ -28,14 +27,14 @@ pub fn uniform(k: Size) -> [f64; 4]
 {
     let models = number(k) as u8;
     let share = 1.0 / (models as f64);
-    kernel::leading([share; 4], k)
+    rows::leading([share; 4], k)
 }
 
 // Each model's predicted probability.
 pub fn predicted(t: &[[f64; 4]; 4], mu: [f64; 4], k: Size) -> [f64; 4]
     ensures { λ v. ⌜ v ≡ padRow (predictedOf (count k) (part k k (now (t .entry))) (front k mu)) ⌝ }
 {
-    kernel::leading(kernel::row_product(mu, t, k), k)
+    rows::leading(rows::row_product(mu, t, k), k)
 }
 
 // The weight of each model in model j, whose predicted probability is c.
@@ -58,17 +57,17 @@ fn weights(t: &[[f64; 4]; 4], mu: [f64; 4], c: f64, j: usize) -> [f64; 4]
 pub fn weighted(x: &[[f64; 4]; 4], w: [f64; 4], n: Size, k: Size) -> [f64; 4]
     ensures { λ v. ⌜ v ≡ padRow (weightedOf (count n) (count k) (bankRows n k (now (x .entry)) [] [] []) (front k w)) ⌝ }
 {
-    kernel::leading(kernel::row_product(w, x, k), n)
+    rows::leading(rows::row_product(w, x, k), n)
 }
 
 // Each model's state less the mixed state m.
 fn deviations(x: &[[f64; 4]; 4], m: [f64; 4]) -> [[f64; 4]; 4]
     ensures { λ d. ⌜ d ≡ table 4 (λ i. vecSub 4 (row (now (x .entry)) i) m) ⌝ }
 {
-    let d0 = kernel::row_difference(x[0], m);
-    let d1 = kernel::row_difference(x[1], m);
-    let d2 = kernel::row_difference(x[2], m);
-    let d3 = kernel::row_difference(x[3], m);
+    let d0 = rows::row_difference(x[0], m);
+    let d1 = rows::row_difference(x[1], m);
+    let d2 = rows::row_difference(x[2], m);
+    let d3 = rows::row_difference(x[3], m);
     [d0, d1, d2, d3]
 }
 
@@ -103,7 +102,7 @@ fn covariance_row<'a>(
     let s1 = spread_row(p, d, 1, r);
     let s2 = spread_row(p, d, 2, r);
     let s3 = spread_row(p, d, 3, r);
-    kernel::combination(w, s0, s1, s2, s3, k)
+    rows::combination(w, s0, s1, s2, s3, k)
 }
 
 // The models' spreads around the mixed state m, each times its weight of w, summed.
@@ -121,7 +120,7 @@ fn mixed_covariance<'a>(
     let rows = number(n);
     let mut out = [[0.0; 4]; 4];
     for r in 0..rows {
-        out[r] = kernel::leading(covariance_row(p, &d, w, r, k), n);
+        out[r] = rows::leading(covariance_row(p, &d, w, r, k), n);
     }
     out
 }
@@ -170,5 +169,5 @@ pub fn update_probabilities(l: [f64; 4], k: Size, mu: &mut [f64; 4])
         v[2] * l[2] / s,
         v[3] * l[3] / s,
     ];
-    *mu = kernel::leading(parts, k);
+    *mu = rows::leading(parts, k);
 }

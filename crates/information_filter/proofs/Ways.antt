@@ -17,11 +17,11 @@ use Rattle.algebra.specs.Array.{cut, used, padRow, rowsOfFlat, flatOfRows}
 use Rattle.algebra.specs.Inverse.{inv}
 use Rattle.algebra.proofs.Matrices.{Shape}
 use Rattle.algebra.proofs.Arrays.{used-pad, cut-padRow}
-use Rattle.matrix.specs.declared.Size.{Size}
+use Rattle.sizes.specs.declared.Size.{Size}
 use Rattle.matrix.specs.declared.VectorResult.{VectorResult}
-use Rattle.matrix.specs.Size.{count, front, part, sizeOf}
+use Rattle.sizes.specs.Size.{count, front, part, sizeOf}
 use Rattle.matrix.specs.Result.{asVector}
-use Rattle.matrix.proofs.Sizes.{is-count}
+use Rattle.sizes.proofs.Sizes.{is-count}
 use Rattle.filtering.specs.Filter.{Motion, Sensor, Estimate}
 use Rattle.filtering.specs.Information.{Information, ofEstimate, update}
 use Rattle.steps.specs.Step.{Rows, wellSized, fitting, estimateRows}

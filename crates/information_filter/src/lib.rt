@@ -3,7 +3,7 @@
 // the matrix that the addition made.
 ghost use mathlib.Core.Path.{_≡_};
 ghost use Rattle.algebra.specs.Array.{cut};
-ghost use Rattle.matrix.specs.Size.{count};
+ghost use Rattle.sizes.specs.Size.{count};
 ghost use Rattle.matrix.specs.Result.{asVector};
 ghost use Rattle.answer.specs.Outcome.{into, if-fitting, handed};
 ghost use Rattle.answer.specs.Told.{statusOf};
@@ -16,11 +16,10 @@ ghost use Rattle.information_filter.specs.Record.{stateOf, covarianceOf,
 use answer::Status;
 use matrix::MatrixResult;
 use matrix::ScalarResult;
-use matrix::Size;
 use matrix::VectorResult;
-use matrix::both;
-use matrix::kernel;
-use matrix::size_of;
+use sizes::Size;
+use sizes::both;
+use sizes::size_of;
 use steps::is_fitting;
 use steps::is_well_sized;
 
@@ -409,7 +408,7 @@ impl InformationFilter {
         if is_well_sized(n, self.m, self.i) {
             let s = size_of(n);
             let rows = kernel::from_flat(&self.omega);
-            matrix::matrix_result(Status::Done, kernel::used_part(&rows, s, s))
+            matrix::matrix_result(Status::Done, rows::used_part(&rows, s, s))
         } else {
             matrix::matrix_refused(1)
         }
@@ -421,7 +420,7 @@ impl InformationFilter {
     {
         if is_well_sized(self.n, self.m, self.i) {
             let xi = self.xi;
-            matrix::vector_result(Status::Done, kernel::leading(xi, size_of(self.n)))
+            matrix::vector_result(Status::Done, rows::leading(xi, size_of(self.n)))
         } else {
             matrix::vector_refused(1)
         }
@@ -474,7 +473,7 @@ impl InformationFilter {
                     q: kernel::flat_part(&q, sn, sn),
                     r: kernel::flat_part(&r, sm, sm),
                     omega: kernel::flat_part(&omega0, sn, sn),
-                    xi: kernel::leading(xi0, sn),
+                    xi: rows::leading(xi0, sn),
                 },
             }
         } else {

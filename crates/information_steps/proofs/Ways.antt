@@ -17,10 +17,10 @@ use Rattle.algebra.proofs.Matrices.{Shape, shape-add}
 use Rattle.algebra.proofs.Vectors.{length-vecAdd, length-matvec}
 use Rattle.algebra.proofs.Arrays.{used-pad, cut-padRow}
 use Rattle.algebra.proofs.Inverses.{inv-shape}
-use Rattle.matrix.specs.declared.Size.{Size}
+use Rattle.sizes.specs.declared.Size.{Size}
 use Rattle.matrix.specs.declared.MatrixResult.{MatrixResult}
 use Rattle.matrix.specs.declared.VectorResult.{VectorResult}
-use Rattle.matrix.specs.Size.{count, front, part}
+use Rattle.sizes.specs.Size.{count, front, part}
 use Rattle.matrix.specs.Result.{vectorResult, asMatrix, asVector}
 use Rattle.inverse.proofs.Results.{was-answered, was-refused}
 use Rattle.filtering.specs.Filter.{Motion, Sensor, Estimate, estimate, predictedState, predictedCovariance, innovation}

@@ -5,8 +5,8 @@ use Rattle.answer.specs.Answer.{mapped}
 use Rattle.answer.specs.Outcome.{Outcome, this}
 use Rattle.algebra.specs.Matrix.{Vector, Matrix}
 use Rattle.algebra.specs.Array.{padRow, pad}
-use Rattle.matrix.specs.declared.Size.{Size}
-use Rattle.matrix.specs.Size.{front, part}
+use Rattle.sizes.specs.declared.Size.{Size}
+use Rattle.sizes.specs.Size.{front, part}
 use Rattle.filtering.specs.Filter.{Sensor, innovation}
 use Rattle.filtering.specs.Information.{Information, informed, state}
 use Rattle.steps.specs.Step.{Rows}

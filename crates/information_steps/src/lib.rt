@@ -6,16 +6,15 @@ ghost use mathlib.Core.List.{[]};
 ghost use Rattle.answer.specs.Outcome.{into, handed};
 ghost use Rattle.answer.specs.Told.{statusOf};
 ghost use Rattle.algebra.specs.Array.{padRow, pad};
-ghost use Rattle.matrix.specs.Size.{count, front, part};
+ghost use Rattle.sizes.specs.Size.{count, front, part};
 ghost use Rattle.matrix.specs.Result.{asVector};
 ghost use Rattle.filtering.specs.Information.{informed, ofEstimate, state as stateOf, predict as predictOf};
 ghost use Rattle.steps.specs.Step.{motionRows, sensorRows, estimateRows};
 ghost use Rattle.information_steps.specs.Step.{informationRows, arraysOf, updateBy};
 use answer::Status;
-use matrix::Size;
 use matrix::VectorResult;
-use matrix::kernel;
-use matrix::number;
+use sizes::Size;
+use sizes::number;
 
 // ---- what is measured is added, for an H of m rows and n columns and the inverted noise W
 
@@ -32,13 +31,13 @@ pub fn informed_matrix<'a>(
         ≡ pad (informed (count n) (count m) (part m n (now (h .entry))) (part m m (now (w .entry))) [] (informationRows n (now (omega .entry)) [])
         .matrix) ⌝ }
 {
-    let ht = kernel::transposed(h, m, n);
+    let ht = rows::transposed(h, m, n);
     let rows = number(n);
     let mut out = [[0.0; 4]; 4];
     for i in 0..rows {
-        let htw = kernel::row_product(ht[i], w, m);
-        let htwh = kernel::row_product(htw, h, m);
-        out[i] = kernel::leading(kernel::row_sum(omega[i], htwh), n);
+        let htw = rows::row_product(ht[i], w, m);
+        let htwh = rows::row_product(htw, h, m);
+        out[i] = rows::leading(rows::row_sum(omega[i], htwh), n);
     }
     out
 }
@@ -58,7 +57,7 @@ pub fn informed_vector<'a>(
         (informationRows n [] (now (xi .entry))) .vector) ⌝ }
 {
     let wz = kernel::product_vector(w, z, m, m);
-    let ht = kernel::transposed(h, m, n);
+    let ht = rows::transposed(h, m, n);
     let htwz = kernel::product_vector(&ht, &wz, n, m);
     kernel::vector_sum(*xi, htwz, n)
 }

@@ -16,10 +16,10 @@ use Rattle.algebra.specs.Array.{cut, used, pad}
 use Rattle.answer.specs.declared.Status.the-variants.{Done}
 use Rattle.matrix.specs.declared.MatrixResult.{MatrixResult}
 use Rattle.matrix.specs.Result.{matrixResult, asMatrix}
-use Rattle.matrix.specs.declared.Size.{Size}
-use Rattle.matrix.specs.declared.Size.the-variants.{One, Two, Three, Four}
-use Rattle.matrix.specs.Size.{count, sizeOf, part, sized}
-use Rattle.matrix.proofs.Sizes.{is-count}
+use Rattle.sizes.specs.declared.Size.{Size}
+use Rattle.sizes.specs.declared.Size.the-variants.{One, Two, Three, Four}
+use Rattle.sizes.specs.Size.{count, sizeOf, part, sized}
+use Rattle.sizes.proofs.Sizes.{is-count}
 use Rattle.matrix.proofs.Results.{if-answered}
 use Rattle.answer.proofs.Tables.{getD-table, table-ext}
 use Rattle.algebra.proofs.Matrices.{Shape, shape-identity}

@@ -10,17 +10,16 @@ ghost use Rattle.answer.specs.Table.{table};
 ghost use Rattle.algebra.specs.Matrix.{cell, oneByOne, twoByTwo};
 ghost use Rattle.algebra.specs.Array.{used};
 ghost use Rattle.algebra.specs.Inverse.{noPivot, pivotRow, inv as invOf};
-ghost use Rattle.matrix.specs.Size.{count, part, sized};
+ghost use Rattle.sizes.specs.Size.{count, part, sized};
 ghost use Rattle.matrix.specs.Result.{matrixResult, asMatrix, asScalar};
 ghost use Rattle.inverse.specs.Two.{inRows, invNumber, fromDiagonal};
 ghost use Rattle.inverse.specs.Rows.{Swap, Scale, Reduce, Clear};
 use answer::Status;
 use matrix::MatrixResult;
 use matrix::ScalarResult;
-use matrix::Size;
 use matrix::VectorResult;
-use matrix::kernel;
-use matrix::number;
+use sizes::Size;
+use sizes::number;
 
 // ---- the pivot
 
@@ -66,7 +65,7 @@ fn scale_row(m: &mut [[f64; 4]; 4], col: usize, s: f64)
     requires { ⌜ col < 4 ⌝ }
     ensures { λ r. ⌜ Scale col s (now (m .entry)) (now (m .exit)) ⌝ }
 {
-    m[col] = kernel::row_scaled(m[col], s);
+    m[col] = rows::row_scaled(m[col], s);
 }
 
 // The factors of the rows: what stands in column col.
@@ -130,7 +129,7 @@ fn eliminate(a: &[[f64; 4]; 4], n: Size) -> MatrixResult
         }
         clear_column(&mut left, &mut right, n, p, col);
     }
-    matrix::matrix_result(Status::Done, kernel::used_part(&right, n, n))
+    matrix::matrix_result(Status::Done, rows::used_part(&right, n, n))
 }
 
 // ---- the sizes 1 and 2, straight-line
@@ -192,12 +191,12 @@ pub fn inverse_two(a: f64, b: f64, c: f64, d: f64) -> VectorResult
     ensures { λ r. ⌜ inRows r ≡ asMatrix (invOf 2 (twoByTwo a b c d)) ⌝ }
 {
     let t = is_larger(c, a);
-    let e = kernel::pick(t, 0.0, 1.0);
-    let f = kernel::pick(t, 1.0, 0.0);
-    let first = kernel::pick(t, c, a);
-    let right = kernel::pick(t, d, b);
-    let below = kernel::pick(t, a, c);
-    let last = kernel::pick(t, b, d);
+    let e = rows::pick(t, 0.0, 1.0);
+    let f = rows::pick(t, 1.0, 0.0);
+    let first = rows::pick(t, c, a);
+    let right = rows::pick(t, d, b);
+    let below = rows::pick(t, a, c);
+    let last = rows::pick(t, b, d);
     diagonal_two(first, right, below, last, e, f, f, e)
 }
 
@@ -222,10 +221,10 @@ fn read_again(r: MatrixResult) -> MatrixResult
 {
     let status = r.status;
     let m = matrix::rows_of(r);
-    let r0 = kernel::leading(m[0], Size::Four);
-    let r1 = kernel::leading(m[1], Size::Four);
-    let r2 = kernel::leading(m[2], Size::Four);
-    let r3 = kernel::leading(m[3], Size::Four);
+    let r0 = rows::leading(m[0], Size::Four);
+    let r1 = rows::leading(m[1], Size::Four);
+    let r2 = rows::leading(m[2], Size::Four);
+    let r3 = rows::leading(m[3], Size::Four);
     matrix::matrix_result(status, [r0, r1, r2, r3])
 }
 
@@ -244,8 +243,8 @@ pub fn inverse_of(a: &[[f64; 4]; 4], n: Size) -> MatrixResult
 pub fn inv(a: [[f64; 4]; 4], n: usize) -> MatrixResult
     ensures { λ r. ⌜ r ≡ asMatrix (if-sized (sized n) (invOf n (used n n a))) ⌝ }
 {
-    if matrix::is_size(n) {
-        let s = matrix::size_of(n);
+    if sizes::is_size(n) {
+        let s = sizes::size_of(n);
         match s {
             Size::One => inverse_one(a[0][0]),
             Size::Two => rows_two(inverse_two(a[0][0], a[0][1], a[1][0], a[1][1])),

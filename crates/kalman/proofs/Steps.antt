@@ -8,10 +8,10 @@ use Rattle.answer.specs.Outcome.{Outcome, done, handed}
 use Rattle.answer.specs.Told.{statusOf}
 use Rattle.algebra.specs.Matrix.{Vector}
 use Rattle.algebra.specs.Array.{cut, padRow, rowsOfFlat, flatOfRows}
-use Rattle.matrix.specs.declared.Size.{Size}
+use Rattle.sizes.specs.declared.Size.{Size}
 use Rattle.matrix.specs.declared.ScalarResult.{ScalarResult}
 use Rattle.matrix.specs.declared.VectorResult.{VectorResult}
-use Rattle.matrix.specs.Size.{count, front}
+use Rattle.sizes.specs.Size.{count, front}
 use Rattle.filtering.specs.Filter.{Motion, Estimate, estimate}
 use Rattle.filtering.specs.Linear.{predict, update}
 use Rattle.steps.specs.Step as Step

@@ -2,7 +2,7 @@
 // the record and hands back its answer and the record that it leaves; a refusal leaves it unchanged.
 ghost use mathlib.Core.Path.{_≡_};
 ghost use Rattle.algebra.specs.Array.{cut, usedFlat};
-ghost use Rattle.matrix.specs.Size.{count};
+ghost use Rattle.sizes.specs.Size.{count};
 ghost use Rattle.matrix.specs.Result.{asVector};
 ghost use Rattle.answer.specs.Outcome.{if-fitting, handed};
 ghost use Rattle.answer.specs.Told.{statusOf};
@@ -14,13 +14,12 @@ ghost use Rattle.kalman.specs.Record.{predictOf, resetOf, updateOf, upda
 use answer::Status;
 use matrix::MatrixResult;
 use matrix::ScalarResult;
-use matrix::Size;
 use matrix::VectorResult;
-use matrix::both;
-use matrix::kernel;
-use matrix::size_of;
 use road::Pair;
 use road::Two;
+use sizes::Size;
+use sizes::both;
+use sizes::size_of;
 use steps::is_fitting;
 use steps::is_well_sized;
 
@@ -318,7 +317,7 @@ impl KalmanFilter {
     {
         if is_well_sized(self.n, self.m, self.i) {
             let x = self.x;
-            matrix::vector_result(Status::Done, kernel::leading(x, size_of(self.n)))
+            matrix::vector_result(Status::Done, rows::leading(x, size_of(self.n)))
         } else {
             matrix::vector_refused(1)
         }
@@ -332,7 +331,7 @@ impl KalmanFilter {
         if is_well_sized(n, self.m, self.i) {
             let s = size_of(n);
             let p = kernel::from_flat(&self.p);
-            matrix::matrix_result(Status::Done, kernel::used_part(&p, s, s))
+            matrix::matrix_result(Status::Done, rows::used_part(&p, s, s))
         } else {
             matrix::matrix_refused(1)
         }
@@ -346,7 +345,7 @@ impl KalmanFilter {
         if is_fitting(n, self.m, self.i, n, k) {
             let s = size_of(n);
             let flat = kernel::flat_part(&p, s, s);
-            let state = kernel::leading(x, s);
+            let state = rows::leading(x, s);
             let mut restarted = self;
             restarted.x = state;
             restarted.p = flat;
@@ -391,7 +390,7 @@ impl KalmanFilter {
                     h: kernel::flat_part(&h, sm, sn),
                     q: kernel::flat_part(&q, sn, sn),
                     r: kernel::flat_part(&r, sm, sm),
-                    x: kernel::leading(x0, sn),
+                    x: rows::leading(x0, sn),
                     p: kernel::flat_part(&p0, sn, sn),
                 },
             }

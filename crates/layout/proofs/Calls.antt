@@ -11,9 +11,9 @@ use Rattle.answer.proofs.Tables.{length-table}
 use Rattle.algebra.specs.Array.{cut, used, padRow, pad}
 use Rattle.algebra.proofs.Matrices.{shape-mat}
 use Rattle.algebra.proofs.Arrays.{length-cut, shape-used, cut-padRow, used-pad}
-use Rattle.matrix.specs.declared.Size.{Size}
-use Rattle.matrix.specs.Size.{count}
-use Rattle.matrix.proofs.Sizes.{bounds}
+use Rattle.sizes.specs.declared.Size.{Size}
+use Rattle.sizes.specs.Size.{count}
+use Rattle.sizes.proofs.Sizes.{bounds}
 use Rattle.layout.specs.Layout.{vectorAt, matrixAt, joined, placed, room, vectorIn, matrixIn, putAt, Parts, partRows, partColumns, total, offset, partAt}
 use Rattle.layout.proofs.Places.{room-of, room-true}
 use Rattle.layout.proofs.Rows.{length-rows}

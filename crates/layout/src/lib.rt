@@ -5,11 +5,11 @@ ghost use mathlib.Core.List.{_++_};
 ghost use Prim.Native.Nat.{_+_, _*_, _≤_};
 ghost use lib.ListN.{length};
 ghost use Rattle.algebra.specs.Array.{padRow, pad};
-ghost use Rattle.matrix.specs.Size.{count, front, part};
+ghost use Rattle.sizes.specs.Size.{count, front, part};
 ghost use Rattle.layout.specs.Layout.{vectorAt, matrixAt, joined, placed, room, vectorIn, matrixIn, putAt};
 ghost use Rattle.layout.specs.Promise.{Layouts};
-use matrix::Size;
-use matrix::number;
+use sizes::Size;
+use sizes::number;
 
 // A promise: nothing is done, and the crate is not proved without what Layouts states.
 pub fn layouts()

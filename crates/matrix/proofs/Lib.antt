@@ -1,4 +1,1 @@
-pub mod Sizes
 pub mod Results
-pub mod Kernels
-pub mod RowWise

@@ -1,3 +1,1 @@
-pub mod Size
 pub mod Result
-pub mod Kernel

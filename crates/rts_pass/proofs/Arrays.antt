@@ -7,8 +7,8 @@ use lib.ListN.{length}
 use lib.Ieee.{Float}
 use Rattle.algebra.specs.Array.{padRow, pad}
 use Rattle.algebra.proofs.Arrays.{used-pad, cut-padRow}
-use Rattle.matrix.specs.declared.Size.{Size}
-use Rattle.matrix.specs.Size.{count, front, part}
+use Rattle.sizes.specs.declared.Size.{Size}
+use Rattle.sizes.specs.Size.{count, front, part}
 use Rattle.filtering.specs.Filter.{Estimate, estimate}
 use Rattle.steps.specs.Step.{Rows, estimateRows, arraysOf}
 use Rattle.layout.specs.Layout.{matrixAt, vectorIn, matrixIn, pairLength}

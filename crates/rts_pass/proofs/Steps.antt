@@ -15,9 +15,9 @@ use Rattle.algebra.proofs.Matrices.{shape-sub}
 use Rattle.algebra.proofs.Vectors.{length-vecSub}
 use Rattle.algebra.proofs.Arrays.{used-pad, cut-padRow}
 use Rattle.algebra.proofs.Inverses.{inv-shape}
-use Rattle.matrix.specs.declared.Size.{Size}
+use Rattle.sizes.specs.declared.Size.{Size}
 use Rattle.matrix.specs.declared.MatrixResult.{MatrixResult}
-use Rattle.matrix.specs.Size.{count, front, part}
+use Rattle.sizes.specs.Size.{count, front, part}
 use Rattle.matrix.specs.Result.{asMatrix}
 use Rattle.inverse.proofs.Results.{was-answered, was-refused}
 use Rattle.filtering.specs.Filter.{propagated, gain, correctedState}

@@ -6,8 +6,8 @@ use lib.Ieee.{Float}
 use Rattle.answer.specs.declared.Status.{Status}
 use Rattle.answer.specs.Answer.{Answer, mapped, if-sized}
 use Rattle.algebra.specs.Array.{used}
-use Rattle.matrix.specs.declared.Size.{Size}
-use Rattle.matrix.specs.Size.{count, part}
+use Rattle.sizes.specs.declared.Size.{Size}
+use Rattle.sizes.specs.Size.{count, part}
 use Rattle.steps.specs.Step.{Rows, estimateRows, arraysOf}
 use Rattle.smoothing.specs.Smoother.{Slot, smoothSlot, smooth}
 use Rattle.duty.specs.Buffer.{dutyOf, outputOf, smoothable}

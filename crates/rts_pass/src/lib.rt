@@ -4,7 +4,7 @@
 ghost use mathlib.Core.Path.{_≡_};
 ghost use Prim.Native.Nat.{_+_, _*_, _≤_};
 ghost use lib.ListN.{length};
-ghost use Rattle.matrix.specs.Size.{count, part};
+ghost use Rattle.sizes.specs.Size.{count, part};
 ghost use Rattle.layout.specs.Layout.{pairLength, stride};
 ghost use Rattle.smoothing.specs.Smoother.{smoothSlots};
 ghost use Rattle.smoothing.specs.Demand3.{Demand3};
@@ -14,11 +14,10 @@ ghost use Rattle.rts_pass.specs.Call.{duty, run};
 ghost use Rattle.rts_pass.specs.Pass.{smoothOf, smoothRows};
 use answer::Status;
 use duty::is_smoothable;
-use matrix::Size;
-use matrix::kernel;
-use matrix::number;
-use matrix::size_of;
 use rts_road::smooth_slots_two;
+use sizes::Size;
+use sizes::number;
+use sizes::size_of;
 
 // ---- a slot of any size, given by the number k at which it begins
 

@@ -3,7 +3,7 @@
 ghost use mathlib.Core.Path.{_≡_};
 ghost use Prim.Native.Nat.{_+_, _*_, _≤_};
 ghost use lib.ListN.{length};
-ghost use Rattle.matrix.specs.Size.{part};
+ghost use Rattle.sizes.specs.Size.{part};
 ghost use Rattle.layout.specs.Layout.{matrixAt, placed};
 ghost use Rattle.road.specs.Road.{matrixOf, estimateOf};
 ghost use Rattle.smoothing.specs.Smoother.{smoothedPair, smoothSlot, smoothSlots};
@@ -11,9 +11,9 @@ ghost use Rattle.duty.specs.Buffer.{pairAt, slotsOf, pairNumbers};
 ghost use Rattle.duty.specs.Passed.{smoothLeft, Passed};
 ghost use Rattle.rts_road.specs.Slot.{slotOfTwo};
 use answer::Status;
-use matrix::Size;
 use road::Pair;
 use road::Two;
+use sizes::Size;
 
 // A slot's smoothed pair beside the answer; beside a refusal, the next slot's.
 struct PairSmoothed {

@@ -17,7 +17,7 @@ use Rattle.answer.proofs.Choice.{and-left, and-right}
 use Rattle.algebra.specs.Matrix.{Matrix}
 use Rattle.algebra.specs.Array.{cut, used, padRow, pad, rowsOfFlat, flatOfRows}
 use Rattle.algebra.proofs.Arrays.{length-cut, shape-used, used-rowsOfFlat}
-use Rattle.matrix.specs.Size.{sized}
+use Rattle.sizes.specs.Size.{sized}
 use Rattle.matrix.proofs.Results.{as-answered}
 use Rattle.filtering.specs.Filter.{estimate}
 use Rattle.layout.specs.Layout.{placed, pairLength, stride}

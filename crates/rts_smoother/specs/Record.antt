@@ -12,7 +12,7 @@ use Rattle.answer.specs.Answer.{Answer, refused, answered, refused-if, where-si
 use Rattle.answer.specs.Outcome.{into, handed}
 use Rattle.answer.specs.Told.{statusOf}
 use Rattle.algebra.specs.Array.{cut, used, usedFlat, padRow, pad, flatOfRows}
-use Rattle.matrix.specs.Size.{sized}
+use Rattle.sizes.specs.Size.{sized}
 use Rattle.matrix.specs.Result.{asTest}
 use Rattle.filtering.specs.Filter.{estimate}
 use Rattle.layout.specs.Layout.{placed, stride}

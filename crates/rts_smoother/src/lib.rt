@@ -5,7 +5,7 @@ ghost use mathlib.Core.Path.{_≡_};
 ghost use mathlib.Core.Bool.{true};
 ghost use Prim.Native.Nat.{_+_, _≤_};
 ghost use lib.ListN.{length};
-ghost use Rattle.matrix.specs.Size.{sized};
+ghost use Rattle.sizes.specs.Size.{sized};
 ghost use Rattle.layout.specs.Layout.{placed, stride};
 ghost use Rattle.duty.specs.Buffer.{slotNumbers};
 ghost use Rattle.smoothing.specs.Demand3.{Demand3};
@@ -16,8 +16,7 @@ use duty::is_buffered;
 use duty::is_counted;
 use duty::stride_of;
 use matrix::TestResult;
-use matrix::kernel;
-use matrix::size_of;
+use sizes::size_of;
 
 // One slot: the filtered state x and covariance p, n by n, and the predicted pair. A matrix stands flat, four
 // numbers a row; what stands outside its sizes is ignored.
@@ -60,7 +59,7 @@ pub enum CountResult {
 fn is_storable(len: usize, n: usize, room: usize, count: usize, size: usize) -> bool
     ensures { λ t. ⌜ t ≡ storable len n room count size ⌝ }
 {
-    matrix::both(is_buffered(len, n, room, count), n == size)
+    sizes::both(is_buffered(len, n, room, count), n == size)
 }
 
 // A slot into a buffer, from number k on: its filtered pair, then its predicted pair. Every other number stays.
@@ -87,15 +86,15 @@ impl FilteredState {
     ) -> StateResult
         ensures { λ r. ⌜ r ≡ stateFrom n x p «x_pred» «p_pred» ⌝ }
     {
-        if matrix::is_size(n) {
+        if sizes::is_size(n) {
             let size = size_of(n);
             StateResult {
                 status: Status::Done,
                 state: FilteredState {
                     n,
-                    x: kernel::leading(x, size),
+                    x: rows::leading(x, size),
                     p: kernel::flat_part(&p, size, size),
-                    x_pred: kernel::leading(x_pred, size),
+                    x_pred: rows::leading(x_pred, size),
                     p_pred: kernel::flat_part(&p_pred, size, size),
                 },
             }

@@ -10,8 +10,8 @@ use Rattle.answer.specs.Table.{table}
 use Rattle.answer.proofs.Tables.{table-getD}
 use Rattle.algebra.specs.Matrix.{Vector, at}
 use Rattle.algebra.specs.Array.{cut, usedFlat, rowsOfFlat, flatOfRows}
-use Rattle.matrix.specs.declared.Size.{Size}
-use Rattle.matrix.specs.Size.{count}
+use Rattle.sizes.specs.declared.Size.{Size}
+use Rattle.sizes.specs.Size.{count}
 use Rattle.filtering.specs.SquareRoot.{Factored, factored, predict, update}
 use Rattle.steps.specs.Step.{Rows}
 use Rattle.steps.specs.Flat.{motionFlat}

@@ -15,8 +15,7 @@ use answer::Status;
 use matrix::MatrixResult;
 use matrix::ScalarResult;
 use matrix::VectorResult;
-use matrix::kernel;
-use matrix::size_of;
+use sizes::size_of;
 use steps::is_fitting;
 use steps::is_well_sized;
 
@@ -142,7 +141,7 @@ fn reset_in<'a>(
         let status = f.status;
         match status {
             Status::Done => {
-                *x = kernel::leading(*x0, size);
+                *x = rows::leading(*x0, size);
                 let rows = matrix::rows_of(f);
                 *s = kernel::to_flat(&rows);
                 return Status::Done;
@@ -239,8 +238,8 @@ impl SqrtKalman {
                     b: kernel::flat_part(&b, sn, size_of(i)),
                     h: kernel::flat_part(&h, sm, sn),
                     q: kernel::flat_part(&q, sn, sn),
-                    r_diag: kernel::leading(r_diag, sm),
-                    x: kernel::leading(x0, sn),
+                    r_diag: rows::leading(r_diag, sm),
+                    x: rows::leading(x0, sn),
                     s_chol: kernel::flat_part(&s0, sn, sn),
                 },
             }
@@ -315,7 +314,7 @@ impl SqrtKalman {
     {
         if is_well_sized(self.n, self.m, self.i) {
             let x = self.x;
-            matrix::vector_result(Status::Done, kernel::leading(x, size_of(self.n)))
+            matrix::vector_result(Status::Done, rows::leading(x, size_of(self.n)))
         } else {
             matrix::vector_refused(1)
         }
@@ -342,7 +341,7 @@ impl SqrtKalman {
         if is_well_sized(n, self.m, self.i) {
             let size = size_of(n);
             let s = kernel::from_flat(&self.s_chol);
-            matrix::matrix_result(Status::Done, kernel::used_part(&s, size, size))
+            matrix::matrix_result(Status::Done, rows::used_part(&s, size, size))
         } else {
             matrix::matrix_refused(1)
         }

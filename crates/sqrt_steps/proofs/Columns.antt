@@ -19,10 +19,10 @@ use Rattle.algebra.specs.Matrix.{Vector, Matrix, at, cell, mat}
 use Rattle.algebra.specs.Array.{cut, used, padRow, pad}
 use Rattle.algebra.proofs.Matrices.{mat-ext}
 use Rattle.algebra.proofs.Arrays.{at-cut, cell-used, used-mat}
-use Rattle.matrix.specs.declared.Size.{Size}
-use Rattle.matrix.specs.Size.{count, front, part}
-use Rattle.matrix.proofs.Sizes.{bounds}
-use Rattle.matrix.proofs.Kernels.{leading-row}
+use Rattle.sizes.specs.declared.Size.{Size}
+use Rattle.sizes.specs.Size.{count, front, part}
+use Rattle.sizes.proofs.Sizes.{bounds}
+use Rattle.rows.proofs.Kernels.{leading-row}
 use Rattle.filtering.specs.SquareRoot.{turnedDiagonal, rotate}
 use Rattle.steps.specs.Step.{Rows}
 use Rattle.sqrt_steps.specs.Step.{turnedColumn, turnedVector, withColumn, rotatedRows}

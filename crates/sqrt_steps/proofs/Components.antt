@@ -23,15 +23,15 @@ use Rattle.algebra.specs.Array.{cut, padRow, pad}
 use Rattle.algebra.proofs.Matrices.{Shape, sum-ext, cell-mat}
 use Rattle.algebra.proofs.Arrays.{at-cut, cell-used, cut-padRow, shape-used}
 use Rattle.algebra.proofs.Vectors.{dot-cut, length-vecAdd, length-matvec, each-cut}
-use Rattle.matrix.specs.declared.Size.{Size}
+use Rattle.sizes.specs.declared.Size.{Size}
 use Rattle.matrix.specs.declared.ScalarResult.{ScalarResult}
 use Rattle.matrix.specs.declared.ScalarResult.the-variants as Scalar
-use Rattle.matrix.specs.Size.{count, front, part}
+use Rattle.sizes.specs.Size.{count, front, part}
 use Rattle.matrix.specs.Result.{asScalar}
-use Rattle.matrix.specs.Kernel.{rowTimes}
-use Rattle.matrix.proofs.Sizes.{bounds}
+use Rattle.rows.specs.Row.{rowTimes}
+use Rattle.sizes.proofs.Sizes.{bounds}
 use Rattle.matrix.proofs.Results.{done-not-refused, answered-value, refused-number}
-use Rattle.matrix.proofs.Kernels.{dot-sized}
+use Rattle.rows.proofs.Kernels.{dot-sized}
 use Rattle.filtering.specs.SquareRoot.{Factored, factored, variance, vecOver, rotated, component}
 use Rattle.steps.specs.Step.{Rows}
 use Rattle.matrix.specs.Result.{asOne}

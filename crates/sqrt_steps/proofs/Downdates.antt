@@ -17,8 +17,8 @@ use Rattle.algebra.specs.Matrix.{Vector, Matrix, cell, at}
 use Rattle.algebra.specs.Array.{padRow, pad}
 use Rattle.algebra.proofs.Matrices.{Shape, shape-mat}
 use Rattle.algebra.proofs.Arrays.{used-pad, cut-padRow}
-use Rattle.matrix.specs.declared.Size.{Size}
-use Rattle.matrix.specs.Size.{count, front, part}
+use Rattle.sizes.specs.declared.Size.{Size}
+use Rattle.sizes.specs.Size.{count, front, part}
 use Rattle.matrix.proofs.Results.{done-not-refused}
 use Rattle.scalar.specs.Number.{_⊖_, _⊗_}
 use Rattle.filtering.specs.SquareRoot.{turnedDiagonal, rotate, rotated}

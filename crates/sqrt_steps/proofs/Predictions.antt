@@ -14,8 +14,8 @@ use Rattle.algebra.specs.Cholesky.{cholesky}
 use Rattle.algebra.proofs.Matrices.{shape-mul}
 use Rattle.algebra.proofs.Arrays.{used-pad}
 use Rattle.matrix.specs.declared.MatrixResult.{MatrixResult}
-use Rattle.matrix.specs.declared.Size.{Size}
-use Rattle.matrix.specs.Size.{count, front, part}
+use Rattle.sizes.specs.declared.Size.{Size}
+use Rattle.sizes.specs.Size.{count, front, part}
 use Rattle.matrix.specs.Result.{asMatrix}
 use Rattle.inverse.proofs.Results.{padded-is}
 use Rattle.filtering.specs.Filter.{predictedState, propagated}

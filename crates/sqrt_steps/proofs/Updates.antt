@@ -15,11 +15,11 @@ use Rattle.answer.proofs.Tables.{set-padTo}
 use Rattle.algebra.specs.Matrix.{Vector, Matrix, at, row}
 use Rattle.algebra.specs.Array.{cut, used, padRow, pad}
 use Rattle.algebra.proofs.Arrays.{at-cut, row-used, cut-padRow, used-pad, shape-used}
-use Rattle.matrix.specs.declared.Size.{Size}
+use Rattle.sizes.specs.declared.Size.{Size}
 use Rattle.matrix.specs.declared.ScalarResult.{ScalarResult}
 use Rattle.matrix.specs.declared.ScalarResult.the-variants as Scalar
 use Rattle.matrix.specs.declared.VectorResult.{VectorResult}
-use Rattle.matrix.specs.Size.{count, front, part}
+use Rattle.sizes.specs.Size.{count, front, part}
 use Rattle.matrix.specs.Result.{vectorResult, asVector}
 use Rattle.filtering.specs.Filter.{Sensor}
 use Rattle.filtering.specs.SquareRoot.{Factored, factored, component, components, update}

@@ -12,8 +12,8 @@ use Rattle.answer.specs.Table.{table}
 use Rattle.scalar.specs.Number.{_⊖_, _⊗_, _⊘_}
 use Rattle.algebra.specs.Matrix.{Vector, Matrix, at, cell, mat}
 use Rattle.algebra.specs.Array.{padRow, pad}
-use Rattle.matrix.specs.declared.Size.{Size}
-use Rattle.matrix.specs.Size.{count, front, part}
+use Rattle.sizes.specs.declared.Size.{Size}
+use Rattle.sizes.specs.Size.{count, front, part}
 use Rattle.filtering.specs.Filter.{Sensor}
 use Rattle.filtering.specs.SquareRoot.{Factored, factored}
 use Rattle.steps.specs.Step.{Rows}

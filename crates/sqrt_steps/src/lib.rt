@@ -6,7 +6,7 @@ ghost use Prim.Native.Nat.{_<_};
 ghost use Rattle.answer.specs.Outcome.{handed};
 ghost use Rattle.answer.specs.Told.{statusOf};
 ghost use Rattle.algebra.specs.Array.{pad};
-ghost use Rattle.matrix.specs.Size.{count, front, part};
+ghost use Rattle.sizes.specs.Size.{count, front, part};
 ghost use Rattle.matrix.specs.Result.{asScalar, asVector};
 ghost use Rattle.filtering.specs.SquareRoot.{turnedDiagonal, rotate as rotateOf, rotated, variance as varianceOf, vecOver};
 ghost use Rattle.filtering.specs.SquareRoot.{covariance as covarianceOf, predict as predictOf, component as componentOf, update as updateOf};
@@ -15,12 +15,11 @@ ghost use Rattle.matrix.specs.Result.{asOne};
 ghost use Rattle.sqrt_steps.specs.Step.{turnedColumn, turnedVector, withColumn, rotatedRows, factoredRows, channelRows, arraysOf};
 use answer::Status;
 use matrix::ScalarResult;
-use matrix::Size;
 use matrix::VectorResult;
-use matrix::kernel;
-use matrix::kernel::pick;
-use matrix::number;
+use rows::pick;
 use scalar::ControlScalar;
+use sizes::Size;
+use sizes::number;
 
 // ---- the downdate of l by v, column by column
 
@@ -72,10 +71,10 @@ fn turned_vector(column: [f64; 4], v: [f64; 4], k: usize, c: f64, s: f64) -> [f6
 fn with_column(l: &[[f64; 4]; 4], k: usize, column: [f64; 4]) -> [[f64; 4]; 4]
     ensures { λ p. ⌜ p ≡ withColumn k column (now (l .entry)) ⌝ }
 {
-    let r0 = kernel::row_with(l[0], k, column[0]);
-    let r1 = kernel::row_with(l[1], k, column[1]);
-    let r2 = kernel::row_with(l[2], k, column[2]);
-    let r3 = kernel::row_with(l[3], k, column[3]);
+    let r0 = rows::row_with(l[0], k, column[0]);
+    let r1 = rows::row_with(l[1], k, column[1]);
+    let r2 = rows::row_with(l[2], k, column[2]);
+    let r3 = rows::row_with(l[3], k, column[3]);
     [r0, r1, r2, r3]
 }
 
@@ -94,8 +93,8 @@ fn rotate(l: &mut [[f64; 4]; 4], v: &mut [f64; 4], k: usize, n: Size) -> Status
             let s = vk / diagonal;
             let column = [l[0][k], l[1][k], l[2][k], l[3][k]];
             let turned = with_column(l, k, turned_column(column, *v, k, d, c, s));
-            *l = kernel::used_part(&turned, n, n);
-            *v = kernel::leading(turned_vector(column, *v, k, c, s), n);
+            *l = rows::used_part(&turned, n, n);
+            *v = rows::leading(turned_vector(column, *v, k, c, s), n);
             Status::Done
         }
         ScalarResult::Refused(number) => Status::Refused(number),
@@ -155,14 +154,14 @@ pub fn component<'a>(
 {
     let k = number(n);
     let y = z - kernel::dot(h, x, k);
-    let t = kernel::row_product(*h, l, n);
+    let t = rows::row_product(*h, l, n);
     let tt = kernel::dot(&t, &t, k);
     match variance(tt + r * r) {
         ScalarResult::Value(s) => {
             let g = kernel::product_vector(l, &t, n, n);
-            *x = kernel::vector_sum(*x, kernel::row_scaled(over(g, s), y), n);
+            *x = kernel::vector_sum(*x, rows::row_scaled(over(g, s), y), n);
             let status = downdate(l, over(g, ControlScalar::sqrt(s)), n);
-            *l = kernel::used_part(l, n, n);
+            *l = rows::used_part(l, n, n);
             match status {
                 Status::Done => ScalarResult::Value(y),
                 Status::Refused(number) => ScalarResult::Refused(number),
@@ -178,7 +177,7 @@ pub fn component<'a>(
 pub fn covariance(l: &[[f64; 4]; 4], n: Size) -> [[f64; 4]; 4]
     ensures { λ p. ⌜ p ≡ pad (covarianceOf (count n) (factoredRows n [] (now (l .entry)))) ⌝ }
 {
-    let t = kernel::transposed(l, n, n);
+    let t = rows::transposed(l, n, n);
     kernel::product(l, &t, n, n, n)
 }
 
@@ -211,7 +210,7 @@ pub fn predict<'a>(
             Status::Done
         }
         Status::Refused(number) => {
-            *l = kernel::used_part(l, n, n);
+            *l = rows::used_part(l, n, n);
             Status::Refused(number)
         }
     }

@@ -5,9 +5,9 @@ use Prim.Native.Nat.{ℕ}
 use lib.Ieee.{Float}
 use Rattle.algebra.specs.Array.{used, cut, padRow, usedFlat, rowsOfFlat}
 use Rattle.algebra.proofs.Arrays.{used-rowsOfFlat}
-use Rattle.matrix.specs.declared.Size.{Size}
-use Rattle.matrix.specs.Size.{count, part}
-use Rattle.matrix.proofs.Sizes.{bounds}
+use Rattle.sizes.specs.declared.Size.{Size}
+use Rattle.sizes.specs.Size.{count, part}
+use Rattle.sizes.proofs.Sizes.{bounds}
 use Rattle.steps.specs.Step.{Rows, motionRows, sensorRows}
 use Rattle.steps.specs.Flat.{flat, motionFlat, sensorFlat}
 

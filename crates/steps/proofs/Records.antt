@@ -18,12 +18,12 @@ use Rattle.answer.proofs.Choice.{and-left, and-right}
 use Rattle.answer.proofs.Tables.{table-getD}
 use Rattle.algebra.specs.Matrix.{Vector, at}
 use Rattle.algebra.specs.Array.{cut, padRow}
-use Rattle.matrix.specs.declared.Size.{Size}
+use Rattle.sizes.specs.declared.Size.{Size}
 use Rattle.matrix.specs.declared.VectorResult.{VectorResult}
 use Rattle.matrix.specs.declared.ScalarResult.the-variants as Scalar
-use Rattle.matrix.specs.Size.{count, sizeOf, sized}
+use Rattle.sizes.specs.Size.{count, sizeOf, sized}
 use Rattle.matrix.specs.Result.{asVector}
-use Rattle.matrix.proofs.Sizes.{is-count}
+use Rattle.sizes.proofs.Sizes.{is-count}
 use Rattle.matrix.proofs.Results.{done-not-refused}
 use Rattle.steps.specs.Step.{fitting}
 use Rattle.matrix.specs.Result.{asOne}

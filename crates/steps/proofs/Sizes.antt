@@ -4,7 +4,7 @@ use mathlib.Core.Bool.{true}
 use Prim.Native.Nat.{ℕ}
 use borrow.Author.Tests.{eqb-true}
 use Rattle.answer.proofs.Choice.{and-left, and-right}
-use Rattle.matrix.specs.Size.{sized}
+use Rattle.sizes.specs.Size.{sized}
 use Rattle.steps.specs.Step.{wellSized, fitting}
 
 pub record Fits (n m i : ℕ) : Type 0 where

@@ -9,8 +9,8 @@ use Rattle.answer.specs.Table.{table}
 use Rattle.answer.proofs.Tables.{getD-table, table-ext}
 use Rattle.algebra.specs.Matrix.{Vector, at, cell, sumOf, vecAdd, vecSub, matvec}
 use Rattle.algebra.specs.Array.{cut, used, padRow}
-use Rattle.matrix.proofs.Sizes.{Bounds}
-use Rattle.matrix.specs.Kernel.{rowTimesTransposed}
+use Rattle.sizes.proofs.Sizes.{Bounds}
+use Rattle.rows.specs.Row.{rowTimesTransposed}
 use Rattle.algebra.proofs.Arrays.{at-cut, matvec-transposed-used}
 
 -- the first n of v's four numbers are w

@@ -11,8 +11,8 @@ use Rattle.matrix.specs.declared.VectorResult.{VectorResult}
 use Rattle.algebra.specs.Matrix.{Vector, Matrix, matvec}
 use Rattle.algebra.specs.Array.{padRow, pad}
 use Rattle.matrix.specs.Result.{vectorResult, asMatrix, asVector}
-use Rattle.matrix.specs.declared.Size.{Size}
-use Rattle.matrix.specs.Size.{count, front, part}
+use Rattle.sizes.specs.declared.Size.{Size}
+use Rattle.sizes.specs.Size.{count, front, part}
 use Rattle.algebra.proofs.Arrays.{used-pad, cut-padRow}
 use Rattle.algebra.proofs.Vectors.{length-vecSub}
 use Rattle.algebra.specs.Inverse.{inv}

@@ -8,9 +8,9 @@ use Rattle.answer.specs.declared.Status.{Status}
 use Rattle.answer.specs.Outcome.{Outcome, standing, handed}
 use Rattle.algebra.specs.Matrix.{Vector, Matrix}
 use Rattle.algebra.specs.Array.{padRow, pad}
-use Rattle.matrix.specs.declared.Size.{Size}
+use Rattle.sizes.specs.declared.Size.{Size}
 use Rattle.matrix.specs.declared.VectorResult.{VectorResult}
-use Rattle.matrix.specs.Size.{sized, count, front, part}
+use Rattle.sizes.specs.Size.{sized, count, front, part}
 use Rattle.matrix.specs.Result.{asVector}
 use Rattle.filtering.specs.Filter.{Motion, Sensor, Estimate, estimate}
 use Rattle.filtering.specs.Linear.{predict, update}

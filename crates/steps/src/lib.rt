@@ -4,15 +4,14 @@
 ghost use mathlib.Core.Path.{_≡_};
 ghost use mathlib.Core.List.{[]};
 ghost use Rattle.algebra.specs.Array.{padRow, pad};
-ghost use Rattle.matrix.specs.Size.{count, front, part};
+ghost use Rattle.sizes.specs.Size.{count, front, part};
 ghost use Rattle.filtering.specs.Filter.{predictedState, propagated as propagatedOf, innovation as innovationOf, gain as gainOf, correctedState, correctedCovariance};
 ghost use Rattle.steps.specs.Step.{wellSized, fitting, motionRows, predictRows, updateRows};
 use answer::Status;
-use matrix::Size;
 use matrix::VectorResult;
-use matrix::both;
-use matrix::kernel;
-use matrix::number;
+use sizes::Size;
+use sizes::both;
+use sizes::number;
 
 // ---- the sizes of a filter, tested by one bool
 
@@ -21,8 +20,8 @@ pub fn is_well_sized(n: usize, m: usize, i: usize) -> bool
     ensures { λ t. ⌜ t ≡ wellSized n m i ⌝ }
 {
     both(
-        matrix::is_size(n),
-        both(matrix::is_size(m), matrix::is_size(i)),
+        sizes::is_size(n),
+        both(sizes::is_size(m), sizes::is_size(i)),
     )
 }
 
@@ -47,9 +46,9 @@ pub fn predicted_state<'a>(
     ensures { λ v. ⌜
         v ≡ padRow (predictedState (motionRows n i (now (a .entry)) (now (b .entry)) []) (front i (now (u .entry))) (front n (now (x .entry)))) ⌝ }
 {
-    let ax = kernel::row_product_transposed(*x, a, n);
-    let bu = kernel::row_product_transposed(*u, b, i);
-    kernel::leading(kernel::row_sum(ax, bu), n)
+    let ax = rows::row_product_transposed(*x, a, n);
+    let bu = rows::row_product_transposed(*u, b, i);
+    rows::leading(rows::row_sum(ax, bu), n)
 }
 
 // A P Aᵀ + Q, for an A of r rows and n columns
@@ -65,9 +64,9 @@ pub fn propagated<'a>(
     let rows = number(r);
     let mut out = [[0.0; 4]; 4];
     for i in 0..rows {
-        let ap = kernel::row_product(a[i], p, n);
-        let apat = kernel::row_product_transposed(ap, a, n);
-        out[i] = kernel::leading(kernel::row_sum(apat, q[i]), r);
+        let ap = rows::row_product(a[i], p, n);
+        let apat = rows::row_product_transposed(ap, a, n);
+        out[i] = rows::leading(rows::row_sum(apat, q[i]), r);
     }
     out
 }
@@ -82,8 +81,8 @@ pub fn innovation<'a>(
 ) -> [f64; 4]
     ensures { λ v. ⌜ v ≡ padRow (innovationOf (count m) (count n) (part m n (now (h .entry))) (front n (now (x .entry))) (front m (now (z .entry)))) ⌝ }
 {
-    let hx = kernel::row_product_transposed(*x, h, n);
-    kernel::leading(kernel::row_difference(*z, hx), m)
+    let hx = rows::row_product_transposed(*x, h, n);
+    rows::leading(rows::row_difference(*z, hx), m)
 }
 
 // P Hᵀ × W, for an H of m rows and n columns: a filter's gain, and a smoother's, whose H is the transition
@@ -99,8 +98,8 @@ pub fn gain<'a>(
     let rows = number(n);
     let mut out = [[0.0; 4]; 4];
     for i in 0..rows {
-        let pht = kernel::row_product_transposed(p[i], h, n);
-        out[i] = kernel::leading(kernel::row_product(pht, w, m), m);
+        let pht = rows::row_product_transposed(p[i], h, n);
+        out[i] = rows::leading(rows::row_product(pht, w, m), m);
     }
     out
 }
@@ -116,8 +115,8 @@ pub fn corrected_state<'a>(
     ensures { λ v. ⌜
         v ≡ padRow (correctedState (count n) (count m) (part n m (now (k .entry))) (front m (now (y .entry))) (front n (now (x .entry)))) ⌝ }
 {
-    let ky = kernel::row_product_transposed(*y, k, m);
-    kernel::leading(kernel::row_sum(*x, ky), n)
+    let ky = rows::row_product_transposed(*y, k, m);
+    rows::leading(rows::row_sum(*x, ky), n)
 }
 
 // (I - K H) × P
@@ -135,9 +134,9 @@ pub fn corrected_covariance<'a>(
     let rows = number(n);
     let mut out = [[0.0; 4]; 4];
     for i in 0..rows {
-        let kh = kernel::row_product(k[i], h, m);
-        let rest = kernel::row_difference(e[i], kh);
-        out[i] = kernel::leading(kernel::row_product(rest, p, n), n);
+        let kh = rows::row_product(k[i], h, m);
+        let rest = rows::row_difference(e[i], kh);
+        out[i] = rows::leading(rows::row_product(rest, p, n), n);
     }
     out
 }

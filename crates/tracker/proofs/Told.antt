@@ -15,7 +15,7 @@ use Rattle.answer.specs.Table.{table, padTo}
 use Rattle.answer.proofs.Tables.{length-table, table-ext, map-table}
 use Rattle.algebra.specs.Matrix.{at}
 use Rattle.algebra.specs.Array.{cut, used}
-use Rattle.matrix.specs.Size.{sized}
+use Rattle.sizes.specs.Size.{sized}
 use Rattle.road.specs.declared.Two.{Two}
 use Rattle.road.specs.Road.{matrixOf}
 use Rattle.smoothing.specs.Smoother.{Duty, smooth}

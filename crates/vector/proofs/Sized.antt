@@ -13,11 +13,11 @@ use Rattle.algebra.specs.Matrix.{Vector, at, cell, mat, vecScale, outer}
 use Rattle.algebra.specs.Array.{cut, used, padRow}
 use Rattle.algebra.proofs.Matrices.{cell-mat, mat-ext}
 use Rattle.algebra.proofs.Vectors.{outer-cut}
-use Rattle.matrix.specs.declared.Size.{Size}
+use Rattle.sizes.specs.declared.Size.{Size}
 use Rattle.matrix.specs.declared.VectorResult.{VectorResult}
-use Rattle.matrix.specs.Size.{count, sizeOf, sized}
+use Rattle.sizes.specs.Size.{count, sizeOf, sized}
 use Rattle.matrix.specs.Result.{vectorResult, asVector}
-use Rattle.matrix.proofs.Sizes.{is-count}
+use Rattle.sizes.proofs.Sizes.{is-count}
 use Rattle.matrix.proofs.Results.{vector-answered}
 
 -- what the inside makes at a `Size`, the call answers at the number that it has tested

@@ -4,24 +4,23 @@ use answer::Status;
 use matrix::MatrixResult;
 use matrix::ScalarResult;
 use matrix::VectorResult;
-use matrix::is_applicable;
-use matrix::is_paired;
-use matrix::is_shape;
-use matrix::is_size;
-use matrix::kernel;
 use matrix::matrix_refused;
 use matrix::matrix_result;
-use matrix::size_of;
 use matrix::vector_refused;
 use matrix::vector_result;
 use scalar::ControlScalar;
+use sizes::is_applicable;
+use sizes::is_paired;
+use sizes::is_shape;
+use sizes::is_size;
+use sizes::size_of;
 ghost use mathlib.Core.Path.{_≡_};
 ghost use Rattle.answer.specs.Answer.{where-sized};
 ghost use Rattle.answer.specs.Table.{table};
 ghost use Rattle.algebra.specs.Matrix.{at, matvec as matvecOf, outer as outerOf, vecAdd, vecSub, vecScale, dot, vecNorm};
 ghost use Rattle.algebra.specs.Array.{cut, used};
 ghost use Rattle.matrix.specs.Result.{asMatrix, asVector, asScalar};
-ghost use Rattle.matrix.specs.Size.{sized, shaped, paired, applicable};
+ghost use Rattle.sizes.specs.Size.{sized, shaped, paired, applicable};
 
 // ---- products
 
@@ -42,10 +41,10 @@ pub fn matvec(a: [[f64; 4]; 4], r: usize, c: usize, v: [f64; 4], n: usize) -> Ve
 fn outer_rows(v: [f64; 4], w: [f64; 4]) -> [[f64; 4]; 4]
     ensures { λ p. ⌜ p ≡ table 4 (λ i. vecScale 4 w (at v i)) ⌝ }
 {
-    let r0 = kernel::row_scaled(w, v[0]);
-    let r1 = kernel::row_scaled(w, v[1]);
-    let r2 = kernel::row_scaled(w, v[2]);
-    let r3 = kernel::row_scaled(w, v[3]);
+    let r0 = rows::row_scaled(w, v[0]);
+    let r1 = rows::row_scaled(w, v[1]);
+    let r2 = rows::row_scaled(w, v[2]);
+    let r3 = rows::row_scaled(w, v[3]);
     [r0, r1, r2, r3]
 }
 
@@ -57,7 +56,7 @@ pub fn outer(v: [f64; 4], r: usize, w: [f64; 4], c: usize) -> MatrixResult
         let rows = size_of(r);
         let cols = size_of(c);
         let m = outer_rows(v, w);
-        matrix_result(Status::Done, kernel::used_part(&m, rows, cols))
+        matrix_result(Status::Done, rows::used_part(&m, rows, cols))
     } else {
         matrix_refused(1)
     }
@@ -94,7 +93,7 @@ pub fn vec_scale(a: [f64; 4], n: usize, s: f64) -> VectorResult
 {
     if is_size(n) {
         let k = size_of(n);
-        vector_result(Status::Done, kernel::leading(kernel::row_scaled(a, s), k))
+        vector_result(Status::Done, rows::leading(rows::row_scaled(a, s), k))
     } else {
         vector_refused(1)
     }

@@ -9,7 +9,7 @@ use lib.Ieee.{Float}
 use borrow.Author.Tests.{eq-eqb, ne-eqb}
 use Rattle.answer.specs.Answer.{where-sized}
 use Rattle.answer.specs.Told.{given}
-use Rattle.matrix.proofs.Sizes.{is-count}
+use Rattle.sizes.proofs.Sizes.{is-count}
 use Rattle.mixing.specs.Mixing.{fusedEstimate}
 use Rattle.steps.proofs.Sizes.{well-sized}
 use Rattle.c_imm.specs.Bank.{isBankWith, bankAt}

@@ -8,7 +8,7 @@ use lib.ListN.{length}
 use lib.Ieee.{Float}
 use Rattle.answer.specs.Told.{given}
 use Rattle.answer.specs.Answer.{where-sized}
-use Rattle.matrix.proofs.Sizes.{is-count}
+use Rattle.sizes.proofs.Sizes.{is-count}
 use Rattle.mixing.specs.Mixing.{uniform}
 use Rattle.layout.specs.Layout.{joined}
 use Rattle.layout.proofs.Places.{placed-none}

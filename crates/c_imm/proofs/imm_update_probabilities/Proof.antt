@@ -8,7 +8,7 @@ use lib.Ieee.{Float}
 use Rattle.answer.specs.Answer.{where-sized}
 use Rattle.answer.specs.Outcome.{into, handed}
 use Rattle.answer.specs.Told.{numberOf}
-use Rattle.matrix.proofs.Sizes.{is-count}
+use Rattle.sizes.proofs.Sizes.{is-count}
 use Rattle.mixing.specs.Mixing.{updateProbabilities}
 use Rattle.steps.proofs.Sizes.{well-sized}
 use Rattle.c_imm.specs.Bank.{bankAt, withProbabilities}

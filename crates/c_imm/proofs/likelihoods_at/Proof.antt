@@ -10,8 +10,8 @@ use Rattle.answer.specs.Table.{table, padTo}
 use Rattle.answer.proofs.Tables.{Filling, filling-none, filling-more, filling-all}
 use Rattle.algebra.specs.Matrix.{at}
 use Rattle.algebra.specs.Array.{padRow}
-use Rattle.matrix.specs.Size.{count}
-use Rattle.matrix.proofs.Sizes.{bounds}
+use Rattle.sizes.specs.Size.{count}
+use Rattle.sizes.proofs.Sizes.{bounds}
 use Rattle.layout.specs.Layout.{vectorIn}
 use Rattle.c_imm.specs.Bank.{modelPlace}
 use Rattle.c_imm.proofs.likelihoods_at.Statement.{statement}

@@ -10,8 +10,8 @@ use lib.Ieee.{Float}
 use Rattle.answer.specs.Answer.{where-sized}
 use Rattle.answer.specs.Outcome.{into, handed}
 use Rattle.answer.specs.Told.{numberOf}
-use Rattle.matrix.specs.Size.{count}
-use Rattle.matrix.proofs.Sizes.{is-count}
+use Rattle.sizes.specs.Size.{count}
+use Rattle.sizes.proofs.Sizes.{is-count}
 use Rattle.mixing.specs.Mixing.{mixEstimates}
 use Rattle.layout.specs.Layout.{modelLength}
 use Rattle.steps.proofs.Sizes.{well-sized}

@@ -3,8 +3,8 @@ use Prim.Native.Nat.{ℕ, _*_, _-_, _≤_}
 use native.Mathlib.Omega.{arith}
 use mathlib.Core.Path.{_≡_, sym, ap, _∙_, subst}
 use lib.ListN.{length}
-use Rattle.matrix.specs.Size.{count}
-use Rattle.matrix.proofs.Sizes.{bounds}
+use Rattle.sizes.specs.Size.{count}
+use Rattle.sizes.proofs.Sizes.{bounds}
 use Rattle.layout.specs.Layout.{modelLength}
 use Rattle.c_imm.specs.Bank.{modelPlace}
 use Rattle.c_imm.proofs.Puts.{Putting, putting-none, putting-more, putting-all}

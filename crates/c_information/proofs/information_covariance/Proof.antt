@@ -14,7 +14,7 @@ use Rattle.answer.specs.Told.{given}
 use Rattle.algebra.specs.Inverse.{inv}
 use Rattle.algebra.proofs.Inverses.{inv-shape}
 use Rattle.matrix.specs.Result.{asMatrix}
-use Rattle.matrix.proofs.Sizes.{is-count}
+use Rattle.sizes.proofs.Sizes.{is-count}
 use Rattle.filtering.specs.Information.{covariance}
 use Rattle.layout.specs.Layout.{joined, filterParts}
 use Rattle.layout.proofs.Calls.{part-read}

@@ -8,7 +8,7 @@ use Rattle.answer.specs.Answer.{Answer, mapped, if-sized, where-sized}
 use Rattle.answer.specs.Outcome.{into, handed}
 use Rattle.answer.specs.Told.{statusOf, given}
 use Rattle.algebra.specs.Array.{padRow, pad}
-use Rattle.matrix.proofs.Sizes.{is-count}
+use Rattle.sizes.proofs.Sizes.{is-count}
 use Rattle.filtering.specs.Information.{Information}
 use Rattle.layout.specs.Layout.{joined}
 use Rattle.steps.proofs.Sizes.{well-sized}

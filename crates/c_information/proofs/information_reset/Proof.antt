@@ -13,7 +13,7 @@ use Rattle.answer.specs.Answer.{Answer}
 use Rattle.answer.specs.Outcome.{into, if-fitting, handed}
 use Rattle.answer.specs.Told.{statusOf}
 use Rattle.algebra.specs.Array.{padRow, pad}
-use Rattle.matrix.proofs.Sizes.{is-count}
+use Rattle.sizes.proofs.Sizes.{is-count}
 use Rattle.filtering.specs.Information.{Information}
 use Rattle.steps.proofs.Sizes.{well-sized}
 use Rattle.information_steps.specs.Step.{arraysOf}

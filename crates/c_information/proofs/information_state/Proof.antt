@@ -9,7 +9,7 @@ use lib.Ieee.{Float}
 use Rattle.answer.specs.Answer.{if-sized}
 use Rattle.answer.specs.Told.{given}
 use Rattle.matrix.specs.Result.{asVector}
-use Rattle.matrix.proofs.Sizes.{is-count}
+use Rattle.sizes.proofs.Sizes.{is-count}
 use Rattle.filtering.specs.Information.{state}
 use Rattle.steps.proofs.Sizes.{well-sized}
 use Rattle.information_steps.proofs.Ways.{length-state}

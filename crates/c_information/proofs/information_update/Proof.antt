@@ -11,7 +11,7 @@ use lib.Ieee.{Float}
 use borrow.Author.Tests.{eqb-true}
 use Rattle.answer.specs.Outcome.{if-fitting, handed}
 use Rattle.answer.proofs.Choice.{and-left, and-right}
-use Rattle.matrix.specs.Size.{part}
+use Rattle.sizes.specs.Size.{part}
 use Rattle.matrix.specs.Result.{asVector}
 use Rattle.filtering.specs.Information.{update}
 use Rattle.information_steps.specs.Step.{arraysOf}

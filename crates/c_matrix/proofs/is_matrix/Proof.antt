@@ -5,8 +5,8 @@ use Prim.Native.Nat.{ℕ, _*_, _≤_}
 use native.Mathlib.Nat.{mul-le-mul}
 use native.Mathlib.Omega.{arith}
 use lib.Dec.{eqb}
-use Rattle.matrix.specs.Size.{shaped}
-use Rattle.matrix.proofs.Sizes.{sizes-of, bounds-of}
+use Rattle.sizes.specs.Size.{shaped}
+use Rattle.sizes.proofs.Sizes.{sizes-of, bounds-of}
 use Rattle.c_matrix.specs.Slices.{isMatrix}
 use Rattle.c_matrix.proofs.Ways.{none}
 use Rattle.c_matrix.proofs.is_matrix.Statement.{statement}

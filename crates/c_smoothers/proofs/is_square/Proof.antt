@@ -2,7 +2,7 @@
 use native.Mathlib.Omega.{arith}
 use mathlib.Core.Path.{sym, _∙_}
 use Prim.Native.Nat.{_*_, _≤_}
-use Rattle.matrix.proofs.Sizes.{bounds-of}
+use Rattle.sizes.proofs.Sizes.{bounds-of}
 use Rattle.duty.proofs.Sizes.{square-small}
 use borrow.Author.Needs.{needs}
 use Rattle.c_smoothers.proofs.Calls.{square-tested, square-unsized}

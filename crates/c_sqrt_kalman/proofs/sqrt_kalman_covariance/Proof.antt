@@ -12,7 +12,7 @@ use Rattle.answer.specs.Told.{given}
 use Rattle.answer.specs.Answer.{where-sized}
 use Rattle.c_sqrt_kalman.specs.Root.{statePlace, factoredAt, isFilter, isStep}
 use borrow.Author.Needs.{needs}
-use Rattle.matrix.proofs.Sizes.{is-count}
+use Rattle.sizes.proofs.Sizes.{is-count}
 use Rattle.layout.specs.Layout.{joined}
 use Rattle.filtering.specs.SquareRoot.{covariance}
 use Rattle.steps.proofs.Sizes.{well-sized}

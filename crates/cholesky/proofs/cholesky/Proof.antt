@@ -4,7 +4,7 @@ use mathlib.Core.Path.{sym, ap, _∙_}
 use Rattle.algebra.specs.Array.{used}
 use Rattle.algebra.specs.Cholesky.{cholesky}
 use Rattle.matrix.specs.Result.{asMatrix}
-use Rattle.matrix.proofs.Sizes.{is-count}
+use Rattle.sizes.proofs.Sizes.{is-count}
 use Rattle.matrix.proofs.Results.{if-answered, if-refused}
 use Rattle.cholesky.proofs.cholesky.Statement.{statement}
 use Rattle.cholesky.proofs.cholesky.Tie as tie

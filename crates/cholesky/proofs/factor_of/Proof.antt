@@ -5,9 +5,9 @@ use native.Mathlib.Omega.{arith}
 use borrow.Author.Needs.{needs}
 use Rattle.answer.specs.declared.Status.the-variants.{Done}
 use Rattle.matrix.specs.Result.{matrixResult, asMatrix}
-use Rattle.matrix.proofs.Sizes.{bounds}
+use Rattle.sizes.proofs.Sizes.{bounds}
 use Rattle.matrix.proofs.Results.{answered-value, refused-number}
-use Rattle.matrix.proofs.Kernels.{dot-sized}
+use Rattle.rows.proofs.Kernels.{dot-sized}
 use Rattle.cholesky.proofs.Loops.{Factoring, factoring-none, factoring-more, factoring-refused, factoring-all, factor-at}
 use Rattle.cholesky.proofs.factor_of.Statement.{statement}
 use Rattle.cholesky.proofs.factor_of.Tie as tie

@@ -2,7 +2,7 @@
 use Prim.Native.Nat.{_-_}
 use native.Mathlib.Omega.{arith}
 use Rattle.algebra.specs.Matrix.{row}
-use Rattle.matrix.proofs.Kernels.{dot-sized}
+use Rattle.rows.proofs.Kernels.{dot-sized}
 use Rattle.cholesky.proofs.Loops.{Lefts, lefts-none, lefts-more, lefts-all}
 use Rattle.cholesky.proofs.left_cells.Statement.{statement}
 use Rattle.cholesky.proofs.left_cells.Tie as tie

@@ -2,7 +2,7 @@
 use mathlib.Core.Path.{sym, _∙_}
 use native.Mathlib.Omega.{arith}
 use Rattle.answer.proofs.Choice.{cond-true, cond-false}
-use Rattle.matrix.proofs.Sizes.{Bounds, bounds-of}
+use Rattle.sizes.proofs.Sizes.{Bounds, bounds-of}
 use Rattle.layout.specs.Layout.{stride}
 use Rattle.duty.proofs.Sizes.{square-small}
 use Rattle.duty.proofs.stride_of.Statement.{statement}

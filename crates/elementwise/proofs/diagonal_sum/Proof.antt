@@ -6,7 +6,7 @@ use Rattle.scalar.specs.Number.{+0}
 use Rattle.algebra.specs.Matrix.{cell, trace}
 use Rattle.algebra.specs.Array.{used}
 use Rattle.algebra.proofs.Matrices.{Summing, summing-none, summing-more, summing-all}
-use Rattle.matrix.proofs.Sizes.{bounds}
+use Rattle.sizes.proofs.Sizes.{bounds}
 use Rattle.elementwise.proofs.Cells.{trace-used}
 use Rattle.elementwise.proofs.diagonal_sum.Statement.{statement}
 use Rattle.elementwise.proofs.diagonal_sum.Tie as tie

@@ -4,7 +4,7 @@ use Rattle.algebra.specs.Matrix.{equal}
 use Rattle.algebra.specs.Array.{used}
 use Rattle.matrix.specs.declared.TestResult.the-variants as Test
 use Rattle.matrix.specs.Result.{asTest}
-use Rattle.matrix.proofs.Sizes.{alike-sizes}
+use Rattle.sizes.proofs.Sizes.{alike-sizes}
 use Rattle.matrix.proofs.Results.{test-refused}
 use Rattle.elementwise.proofs.Sized.{at-sizes}
 use Rattle.elementwise.proofs.eq.Statement.{statement}

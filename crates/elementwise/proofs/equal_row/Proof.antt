@@ -4,7 +4,7 @@ use lib.Ieee.{eq, ne}
 use borrow.Author.Tests.{not-true, not-false}
 use native.Mathlib.Omega.{arith}
 use Rattle.algebra.specs.Matrix.{at}
-use Rattle.matrix.proofs.Sizes.{bounds}
+use Rattle.sizes.proofs.Sizes.{bounds}
 use Rattle.elementwise.proofs.Cells.{Passing, passing-none, passing-more, passing-all, every-not}
 use Rattle.elementwise.proofs.equal_row.Statement.{statement}
 use Rattle.elementwise.proofs.equal_row.Tie as tie

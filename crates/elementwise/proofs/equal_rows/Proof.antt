@@ -5,8 +5,8 @@ use lib.Ieee.{eq}
 use borrow.Author.Tests.{not-true, not-false}
 use native.Mathlib.Omega.{arith}
 use Rattle.algebra.specs.Matrix.{cell, every}
-use Rattle.matrix.specs.Size.{count}
-use Rattle.matrix.proofs.Sizes.{bounds}
+use Rattle.sizes.specs.Size.{count}
+use Rattle.sizes.proofs.Sizes.{bounds}
 use Rattle.elementwise.proofs.Cells.{Passing, passing-none, passing-more, passing-all, every-not, equal-used}
 use Rattle.elementwise.proofs.equal_rows.Statement.{statement}
 use Rattle.elementwise.proofs.equal_rows.Tie as tie

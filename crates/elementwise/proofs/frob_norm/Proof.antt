@@ -5,7 +5,7 @@ use Rattle.algebra.specs.Matrix.{frobNorm}
 use Rattle.algebra.specs.Array.{used}
 use Rattle.matrix.specs.declared.ScalarResult.the-variants as Scalar
 use Rattle.matrix.specs.Result.{asScalar}
-use Rattle.matrix.proofs.Sizes.{sizes-of}
+use Rattle.sizes.proofs.Sizes.{sizes-of}
 use Rattle.matrix.proofs.Results.{scalar-refused}
 use Rattle.elementwise.proofs.Sized.{at-sizes}
 use Rattle.elementwise.proofs.frob_norm.Statement.{statement}

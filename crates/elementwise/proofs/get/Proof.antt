@@ -3,7 +3,7 @@ use Prim.Native.Nat.{_<_}
 use mathlib.Core.Path.{sym, _∙_}
 use native.Mathlib.Omega.{arith}
 use Rattle.algebra.proofs.Arrays.{cell-used}
-use Rattle.matrix.proofs.Sizes.{inside-sizes}
+use Rattle.sizes.proofs.Sizes.{inside-sizes}
 use Rattle.matrix.proofs.Results.{scalar-answered, scalar-refused}
 use Rattle.elementwise.proofs.Sized.{inside-four}
 use Rattle.elementwise.proofs.get.Statement.{statement}

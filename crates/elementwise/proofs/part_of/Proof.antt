@@ -1,7 +1,7 @@
 -- `part_of` meets its contract: its two ways out are those of the test of sizes, and the rows are the kernel's.
 use mathlib.Core.Path.{sym, _∙_}
 use Rattle.algebra.specs.Array.{used}
-use Rattle.matrix.proofs.Sizes.{sizes-of}
+use Rattle.sizes.proofs.Sizes.{sizes-of}
 use Rattle.matrix.proofs.Results.{matrix-refused}
 use Rattle.elementwise.proofs.Sized.{matrix-at}
 use Rattle.elementwise.proofs.part_of.Statement.{statement}

@@ -4,7 +4,7 @@ use mathlib.Core.Path.{sym, _∙_}
 use native.Mathlib.Omega.{arith}
 use Rattle.algebra.specs.Matrix.{setCell}
 use Rattle.algebra.specs.Array.{used}
-use Rattle.matrix.proofs.Sizes.{inside-sizes, is-count}
+use Rattle.sizes.proofs.Sizes.{inside-sizes, is-count}
 use Rattle.matrix.proofs.Results.{matrix-refused}
 use Rattle.elementwise.proofs.Sized.{matrix-at, inside-four}
 use Rattle.elementwise.proofs.Stores.{stored-used}

@@ -5,7 +5,7 @@ use native.Mathlib.Omega.{arith}
 use Rattle.scalar.specs.Number.{_⊗_}
 use Rattle.algebra.specs.Matrix.{at, sumFrom}
 use Rattle.algebra.proofs.Matrices.{Summing, summing-none, summing-more, summing-all}
-use Rattle.matrix.proofs.Sizes.{bounds}
+use Rattle.sizes.proofs.Sizes.{bounds}
 use Rattle.elementwise.proofs.squares_row.Statement.{statement}
 use Rattle.elementwise.proofs.squares_row.Tie as tie
 

@@ -1,8 +1,8 @@
 -- `sum_of_squares` meets its contract: a turn adds the squares of one row (`Squaring`).
 use Prim.Native.Nat.{_-_, _≤_}
 use native.Mathlib.Omega.{arith}
-use Rattle.matrix.specs.Size.{count}
-use Rattle.matrix.proofs.Sizes.{bounds}
+use Rattle.sizes.specs.Size.{count}
+use Rattle.sizes.proofs.Sizes.{bounds}
 use Rattle.elementwise.proofs.Cells.{Squaring, squaring-none, squaring-more, squaring-all}
 use Rattle.elementwise.proofs.sum_of_squares.Statement.{statement}
 use Rattle.elementwise.proofs.sum_of_squares.Tie as tie

@@ -2,7 +2,7 @@
 use mathlib.Core.Path.{sym, _∙_}
 use Rattle.algebra.specs.Matrix.{transpose}
 use Rattle.algebra.specs.Array.{used}
-use Rattle.matrix.proofs.Sizes.{sizes-of}
+use Rattle.sizes.proofs.Sizes.{sizes-of}
 use Rattle.matrix.proofs.Results.{matrix-refused}
 use Rattle.elementwise.proofs.Sized.{matrix-at}
 use Rattle.elementwise.proofs.transpose.Statement.{statement}

@@ -1,8 +1,8 @@
 -- `covariance_row` meets its contract: the models' rows, combined by their weights.
 use mathlib.Core.Path.{refl}
 use Rattle.answer.specs.Table.{table}
-use Rattle.matrix.proofs.Kernels.{combination-is}
-use Rattle.matrix.proofs.Sizes.{bounds}
+use Rattle.rows.proofs.Kernels.{combination-is}
+use Rattle.sizes.proofs.Sizes.{bounds}
 use Rattle.imm_steps.specs.Bank.{spreadCell}
 use borrow.Author.Needs.{needs}
 use Rattle.imm_steps.proofs.covariance_row.Statement.{statement}

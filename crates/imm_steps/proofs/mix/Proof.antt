@@ -6,8 +6,8 @@ use lib.ListN.{replicate}
 use Rattle.scalar.specs.Number.{+0}
 use Rattle.answer.proofs.Tables.{Filling, filling-none, filling-more}
 use Rattle.algebra.specs.Array.{padRow, pad}
-use Rattle.matrix.specs.Size.{count}
-use Rattle.matrix.proofs.Sizes.{bounds}
+use Rattle.sizes.specs.Size.{count}
+use Rattle.sizes.proofs.Sizes.{bounds}
 use Rattle.imm_steps.proofs.Mixes.{mixed, weights-are, state-turn, covariance-turn, all-turns}
 use Rattle.imm_steps.proofs.mix.Statement.{statement}
 use Rattle.imm_steps.proofs.mix.Tie as tie

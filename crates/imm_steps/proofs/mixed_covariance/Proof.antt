@@ -8,9 +8,9 @@ use Rattle.answer.specs.Table.{table}
 use Rattle.algebra.specs.Matrix.{at, sumOf}
 use Rattle.algebra.specs.Array.{cut}
 use Rattle.algebra.proofs.Arrays.{Rows, rows-none, rows-more, rows-all}
-use Rattle.matrix.specs.Size.{count}
-use Rattle.matrix.proofs.Kernels.{leading-row}
-use Rattle.matrix.proofs.Sizes.{bounds}
+use Rattle.sizes.specs.Size.{count}
+use Rattle.rows.proofs.Kernels.{leading-row}
+use Rattle.sizes.proofs.Sizes.{bounds}
 use Rattle.imm_steps.specs.Bank.{spreadCell}
 use Rattle.imm_steps.proofs.Banks.{covariance-used}
 use Rattle.imm_steps.proofs.mixed_covariance.Statement.{statement}

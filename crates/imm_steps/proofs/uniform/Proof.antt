@@ -7,9 +7,9 @@ use lib.Ieee.{binary64, ofInt}
 use Rattle.scalar.specs.Number.{_⊘_, one}
 use Rattle.answer.specs.Table.{table}
 use Rattle.algebra.specs.Array.{padRow}
-use Rattle.matrix.specs.Size.{count}
-use Rattle.matrix.proofs.Kernels.{leading-row}
-use Rattle.matrix.proofs.Sizes.{bounds}
+use Rattle.sizes.specs.Size.{count}
+use Rattle.rows.proofs.Kernels.{leading-row}
+use Rattle.sizes.proofs.Sizes.{bounds}
 use Rattle.mixing.specs.Mixing.{uniform}
 use borrow.Author.Needs.{needs}
 use Rattle.imm_steps.proofs.uniform.Statement.{statement}

@@ -6,9 +6,9 @@ use Rattle.scalar.specs.Number.{_⊗_, _⊘_}
 use Rattle.answer.proofs.Choice.{cond-true, cond-false}
 use Rattle.algebra.specs.Matrix.{at, sumOf, dot}
 use Rattle.algebra.specs.Array.{padRow}
-use Rattle.matrix.specs.Size.{count}
-use Rattle.matrix.proofs.Kernels.{dot-sized, leading-row}
-use Rattle.matrix.proofs.Sizes.{bounds}
+use Rattle.sizes.specs.Size.{count}
+use Rattle.rows.proofs.Kernels.{dot-sized, leading-row}
+use Rattle.sizes.proofs.Sizes.{bounds}
 use Rattle.imm_steps.proofs.Banks.{probabilities-used}
 use native.Mathlib.Omega.{arith}
 use borrow.Author.Needs.{needs}

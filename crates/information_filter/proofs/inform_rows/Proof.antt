@@ -3,7 +3,7 @@ use mathlib.Core.Path.{_≡_, _∙_}
 use mathlib.Core.List.{List}
 use lib.Ieee.{Float}
 use Rattle.algebra.specs.Array.{flatOfRows, padRow}
-use Rattle.matrix.specs.Size.{count, front}
+use Rattle.sizes.specs.Size.{count, front}
 use Rattle.filtering.specs.Information.{informed}
 use Rattle.steps.proofs.Flats.{read}
 use Rattle.information_steps.specs.Step.{arraysOf}

@@ -2,7 +2,7 @@
 use mathlib.Core.Path.{_∙_}
 use Rattle.answer.specs.Outcome.{handed}
 use Rattle.answer.specs.Told.{statusOf}
-use Rattle.matrix.specs.Size.{front}
+use Rattle.sizes.specs.Size.{front}
 use Rattle.filtering.specs.Information.{predict}
 use Rattle.steps.proofs.Flats.{read-motion}
 use Rattle.information_steps.specs.Step.{arraysOf}

@@ -1,7 +1,7 @@
 -- `reset_rows` meets its contract: by the status.
 use mathlib.Core.List.{[]}
 use Rattle.algebra.specs.Array.{pad}
-use Rattle.matrix.specs.Size.{count}
+use Rattle.sizes.specs.Size.{count}
 use Rattle.steps.specs.Flat.{estimateFrom}
 use Rattle.information_steps.proofs.Ways.{plain-estimate}
 use Rattle.information_filter.proofs.Ways.{went, stopped}

@@ -2,7 +2,7 @@
 use mathlib.Core.Path.{_∙_, ap, sym}
 use Rattle.answer.specs.Outcome.{handed}
 use Rattle.algebra.specs.Inverse.{inv}
-use Rattle.matrix.specs.Size.{count, front, part}
+use Rattle.sizes.specs.Size.{count, front, part}
 use Rattle.matrix.specs.Result.{asVector}
 use Rattle.steps.specs.Flat.{sensorFlat}
 use Rattle.steps.proofs.Flats.{read, read-sensor}

@@ -6,9 +6,9 @@ use mathlib.Core.List.{[]}
 use Rattle.algebra.specs.Matrix.{row}
 use Rattle.algebra.proofs.Matrices.{shape-transpose}
 use Rattle.algebra.proofs.Arrays.{Rows, rows-none, rows-more, rows-all, used-pad}
-use Rattle.matrix.specs.Size.{count, part}
-use Rattle.matrix.proofs.Sizes.{bounds}
-use Rattle.matrix.proofs.RowWise.{row-of-used, row-of-sum, row-of-product, row-renamed, row-leading, rows-are}
+use Rattle.sizes.specs.Size.{count, part}
+use Rattle.sizes.proofs.Sizes.{bounds}
+use Rattle.rows.proofs.RowWise.{row-of-used, row-of-sum, row-of-product, row-renamed, row-leading, rows-are}
 use Rattle.filtering.specs.Information.{informed}
 use Rattle.information_steps.specs.Step.{informationRows}
 use Rattle.information_steps.proofs.Ways.{shape-informed}

@@ -5,7 +5,7 @@ use Rattle.algebra.specs.Array.{padRow}
 use Rattle.algebra.proofs.Matrices.{shape-transpose}
 use Rattle.algebra.proofs.Vectors.{length-matvec}
 use Rattle.algebra.proofs.Arrays.{used-pad, cut-padRow}
-use Rattle.matrix.specs.Size.{count, front, part}
+use Rattle.sizes.specs.Size.{count, front, part}
 use Rattle.filtering.specs.Information.{informed}
 use borrow.Author.Needs.{needs}
 use Rattle.information_steps.proofs.informed_vector.Statement.{statement}

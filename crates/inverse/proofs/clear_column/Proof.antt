@@ -1,6 +1,6 @@
 -- `clear_column` meets its contract: each call does to the used parts what the definition does there, and leaves four rows.
 use native.Mathlib.Omega.{arith}
-use Rattle.matrix.proofs.Sizes.{bounds}
+use Rattle.sizes.proofs.Sizes.{bounds}
 use Rattle.inverse.proofs.Elimination.{scale-long, turn}
 use Rattle.inverse.proofs.clear_column.Statement.{statement}
 use Rattle.inverse.proofs.clear_column.Tie as tie

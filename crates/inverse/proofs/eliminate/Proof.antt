@@ -3,8 +3,8 @@ use mathlib.Core.Path.{_≡_, sym, ap, _∙_}
 use Prim.Native.Nat.{_-_}
 use native.Mathlib.Omega.{arith}
 use Rattle.matrix.specs.Result.{asMatrix}
-use Rattle.matrix.specs.Size.{count, part}
-use Rattle.matrix.proofs.Sizes.{bounds}
+use Rattle.sizes.specs.Size.{count, part}
+use Rattle.sizes.proofs.Sizes.{bounds}
 use Rattle.inverse.proofs.Elimination.{Sweeping, sweeping-none, sweeping-more, sweeping-refused, sweeping-out}
 use Rattle.inverse.proofs.eliminate.Statement.{statement}
 use Rattle.inverse.proofs.eliminate.Tie as tie

@@ -2,7 +2,7 @@
 use mathlib.Core.Path.{sym, ap, _∙_}
 use borrow.Author.Needs.{needs}
 use Rattle.algebra.specs.Array.{cut, used}
-use Rattle.matrix.specs.Size.{count}
+use Rattle.sizes.specs.Size.{count}
 use Rattle.inverse.proofs.Elimination.{inv-at}
 use Rattle.inverse.proofs.inverse_of.Statement.{statement}
 use Rattle.inverse.proofs.inverse_of.Tie as tie

@@ -5,7 +5,7 @@ use Prim.Native.Nat.{ℕ, suc, _-_, _≤_}
 use native.Mathlib.Omega.{arith}
 use Rattle.algebra.proofs.Pivots.{Leading, leading-first, leading-passed, leading-kept, leading-all}
 use Rattle.algebra.specs.Inverse.{pivotRow}
-use Rattle.matrix.proofs.Sizes.{bounds}
+use Rattle.sizes.proofs.Sizes.{bounds}
 use Rattle.inverse.proofs.pivot_row.Statement.{statement}
 use Rattle.inverse.proofs.pivot_row.Tie as tie
 

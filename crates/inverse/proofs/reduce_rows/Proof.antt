@@ -2,7 +2,7 @@
 use mathlib.Core.Logic.{⊎-elim}
 use Prim.Native.Nat.{_-_, _≤_}
 use native.Mathlib.Omega.{arith}
-use Rattle.matrix.proofs.Sizes.{bounds}
+use Rattle.sizes.proofs.Sizes.{bounds}
 use Rattle.inverse.proofs.Rows.{Reducing, reducing-none, reducing-stored, reducing-kept, reducing-all, reduced-renamed}
 use Rattle.inverse.proofs.reduce_rows.Statement.{statement}
 use Rattle.inverse.proofs.reduce_rows.Tie as tie

@@ -3,7 +3,7 @@ use mathlib.Core.Path.{_∙_}
 use Rattle.steps.proofs.Flats.{read-motion}
 use Rattle.kalman.proofs.Steps.{read-estimate, rows-predicted}
 use Rattle.filtering.specs.Linear.{predict}
-use Rattle.matrix.specs.Size.{front}
+use Rattle.sizes.specs.Size.{front}
 use Rattle.steps.specs.Step.{leftRows}
 use Rattle.kalman.proofs.predict_rows.Statement.{statement}
 use Rattle.kalman.proofs.predict_rows.Tie as tie

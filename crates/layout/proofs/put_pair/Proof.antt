@@ -5,8 +5,8 @@ use native.Mathlib.Omega.{arith}
 use lib.ListN.{length}
 use borrow.Author.Needs.{needs}
 use Rattle.algebra.proofs.Arrays.{length-cut}
-use Rattle.matrix.specs.Size.{count}
-use Rattle.matrix.proofs.Sizes.{bounds}
+use Rattle.sizes.specs.Size.{count}
+use Rattle.sizes.proofs.Sizes.{bounds}
 use Rattle.layout.proofs.Places.{then-placed}
 use Rattle.layout.proofs.Calls.{few, length-pair, there-is, found, missed}
 use Rattle.layout.proofs.put_pair.Statement.{statement}

@@ -6,8 +6,8 @@ use lib.ListN.{length}
 use Rattle.answer.specs.Table.{table}
 use Rattle.algebra.specs.Array.{pad}
 use Rattle.algebra.proofs.Arrays.{Rows, rows-none, rows-more, rows-all}
-use Rattle.matrix.specs.Size.{count}
-use Rattle.matrix.proofs.Sizes.{bounds}
+use Rattle.sizes.specs.Size.{count}
+use Rattle.sizes.proofs.Sizes.{bounds}
 use Rattle.layout.specs.Layout.{vectorAt}
 use Rattle.layout.proofs.Rows.{row-ends}
 use Rattle.layout.proofs.read_matrix.Statement.{statement}

@@ -2,7 +2,7 @@
 use mathlib.Core.Path.{refl}
 use native.Mathlib.Omega.{arith}
 use Rattle.algebra.specs.Array.{cut}
-use Rattle.matrix.proofs.Sizes.{bounds, exactly, is-one, is-four}
+use Rattle.sizes.proofs.Sizes.{bounds, exactly, is-one, is-four}
 use Rattle.layout.proofs.Loops.{read-out}
 use Rattle.layout.proofs.read_vector.Statement.{statement}
 use Rattle.layout.proofs.read_vector.Tie as tie

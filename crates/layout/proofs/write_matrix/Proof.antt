@@ -7,8 +7,8 @@ use Rattle.answer.specs.Table.{table}
 use Rattle.algebra.specs.Matrix.{row}
 use Rattle.algebra.specs.Array.{cut, used}
 use Rattle.algebra.proofs.Arrays.{length-cut}
-use Rattle.matrix.specs.Size.{count, front}
-use Rattle.matrix.proofs.Sizes.{bounds}
+use Rattle.sizes.specs.Size.{count, front}
+use Rattle.sizes.proofs.Sizes.{bounds}
 use Rattle.layout.specs.Layout.{joined, placed}
 use Rattle.layout.proofs.Loops.{Putting, putting-none, putting-room, putting-more, putting-all}
 use Rattle.layout.proofs.write_matrix.Statement.{statement}

@@ -1,7 +1,7 @@
 -- `write_vector` meets its contract: the numbers are set one after another, up to the size.
 use native.Mathlib.Omega.{arith}
 use lib.ListN.{length-set}
-use Rattle.matrix.proofs.Sizes.{bounds, exactly, is-one, is-four}
+use Rattle.sizes.proofs.Sizes.{bounds, exactly, is-one, is-four}
 use Rattle.layout.proofs.Loops.{written, write-one, write-two, write-three, write-four}
 use Rattle.layout.proofs.write_vector.Statement.{statement}
 use Rattle.layout.proofs.write_vector.Tie as tie

@@ -2,7 +2,7 @@
 use mathlib.Core.Path.{_≡_, sym, _∙_}
 use Rattle.algebra.specs.Matrix.{mul}
 use Rattle.algebra.specs.Array.{used, pad}
-use Rattle.matrix.proofs.Sizes.{chained-sizes, is-count}
+use Rattle.sizes.proofs.Sizes.{chained-sizes, is-count}
 use Rattle.matrix.proofs.Results.{matrix-answered, matrix-refused}
 use Rattle.matrix.proofs.matmul.Statement.{statement}
 use Rattle.matrix.proofs.matmul.Tie as tie

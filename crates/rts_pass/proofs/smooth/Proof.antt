@@ -6,8 +6,8 @@ use native.Mathlib.Omega.{arith}
 use lib.ListN.{length}
 use lib.Seq.{length-take-le}
 use borrow.Author.Needs.{needs}
-use Rattle.matrix.specs.Size.{count}
-use Rattle.matrix.proofs.Sizes.{is-count}
+use Rattle.sizes.specs.Size.{count}
+use Rattle.sizes.proofs.Sizes.{is-count}
 use Rattle.duty.specs.Buffer.{smoothable}
 use Rattle.duty.proofs.Sizes.{Smoothable, smoothable-of, output-small, passable}
 use Rattle.rts_pass.proofs.Outputs.{smooth-unsized, smooth-none, smooth-stopped, smooth-done}

@@ -5,7 +5,7 @@ use native.Mathlib.Omega.{arith}
 use lib.ListN.{length}
 use borrow.Author.Needs.{needs}
 use Rattle.algebra.specs.Array.{used}
-use Rattle.matrix.specs.Size.{count, part}
+use Rattle.sizes.specs.Size.{count, part}
 use Rattle.filtering.specs.Filter.{Estimate, estimate}
 use Rattle.steps.specs.Step.{estimateRows, arraysOf}
 use Rattle.layout.specs.Layout.{pairLength, stride}

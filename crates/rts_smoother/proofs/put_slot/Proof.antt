@@ -2,7 +2,7 @@
 use Prim.Native.Nat.{_+_}
 use native.Mathlib.Omega.{arith}
 use borrow.Author.Needs.{needs}
-use Rattle.matrix.proofs.Sizes.{bounds-of, is-count}
+use Rattle.sizes.proofs.Sizes.{bounds-of, is-count}
 use Rattle.layout.specs.Layout.{pairLength}
 use Rattle.duty.proofs.Pairs.{pair-placed}
 use Rattle.rts_smoother.proofs.Records.{slot-placed}

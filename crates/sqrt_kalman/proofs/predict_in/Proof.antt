@@ -2,7 +2,7 @@
 use mathlib.Core.Path.{refl, _∙_}
 use Rattle.answer.specs.Outcome.{handed}
 use Rattle.answer.specs.Told.{statusOf}
-use Rattle.matrix.specs.Size.{count, front}
+use Rattle.sizes.specs.Size.{count, front}
 use Rattle.filtering.specs.SquareRoot.{predict}
 use Rattle.steps.proofs.Flats.{read-motion}
 use Rattle.sqrt_steps.specs.Step.{arraysOf}

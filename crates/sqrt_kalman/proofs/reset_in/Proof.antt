@@ -4,8 +4,8 @@ use borrow.Author.Needs.{needs}
 use Rattle.algebra.specs.Array.{flatOfRows}
 use Rattle.algebra.specs.Cholesky.{cholesky}
 use Rattle.algebra.proofs.Factors.{shape-cholesky}
-use Rattle.matrix.specs.Size.{count, part}
-use Rattle.matrix.proofs.Sizes.{is-count}
+use Rattle.sizes.specs.Size.{count, part}
+use Rattle.sizes.proofs.Sizes.{is-count}
 use Rattle.inverse.proofs.Results.{was-answered, was-refused}
 use Rattle.steps.proofs.Sizes.{fits}
 use Rattle.sqrt_steps.proofs.Predictions.{answered-rows}

@@ -1,7 +1,7 @@
 -- `update_in` meets its contract: by the test of the sizes; the rows that it reads are those of the record's numbers.
 use mathlib.Core.Path.{_∙_}
 use Rattle.answer.specs.Outcome.{handed}
-use Rattle.matrix.specs.Size.{count, front}
+use Rattle.sizes.specs.Size.{count, front}
 use Rattle.matrix.specs.Result.{asVector}
 use Rattle.filtering.specs.SquareRoot.{update}
 use Rattle.sqrt_steps.specs.Step.{arraysOf}

@@ -4,7 +4,7 @@ use Rattle.algebra.specs.Matrix.{Matrix, mul, transpose}
 use Rattle.algebra.specs.Array.{pad}
 use Rattle.algebra.proofs.Matrices.{shape-transpose}
 use Rattle.algebra.proofs.Arrays.{used-pad}
-use Rattle.matrix.specs.Size.{count, part}
+use Rattle.sizes.specs.Size.{count, part}
 use Rattle.filtering.specs.SquareRoot.{covariance}
 use Rattle.sqrt_steps.proofs.covariance.Statement.{statement}
 use Rattle.sqrt_steps.proofs.covariance.Tie as tie

@@ -3,8 +3,8 @@ use mathlib.Core.Path.{_≡_, sym, subst}
 use Prim.Native.Nat.{ℕ, _-_, _≤_, _<_}
 use native.Mathlib.Omega.{arith}
 use borrow.Author.Needs.{needs}
-use Rattle.matrix.specs.Size.{count}
-use Rattle.matrix.proofs.Sizes.{bounds}
+use Rattle.sizes.specs.Size.{count}
+use Rattle.sizes.proofs.Sizes.{bounds}
 use Rattle.sqrt_steps.proofs.Downdates.{Turning, turning-none, turning-more, turning-refused, turning-all}
 use Rattle.sqrt_steps.proofs.downdate.Statement.{statement}
 use Rattle.sqrt_steps.proofs.downdate.Tie as tie

@@ -3,7 +3,7 @@ use mathlib.Core.Path.{_≡_, _∙_}
 use borrow.Author.Needs.{needs}
 use Rattle.algebra.specs.Cholesky.{cholesky}
 use Rattle.algebra.proofs.Factors.{shape-cholesky}
-use Rattle.matrix.specs.Size.{count}
+use Rattle.sizes.specs.Size.{count}
 use Rattle.matrix.specs.Result.{asMatrix}
 use Rattle.inverse.proofs.Results.{was-answered, was-refused}
 use Rattle.filtering.specs.Filter.{predictedState}

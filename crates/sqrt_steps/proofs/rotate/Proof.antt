@@ -3,7 +3,7 @@ use mathlib.Core.Path.{refl}
 use Prim.Native.Nat.{_<_}
 use native.Mathlib.Omega.{arith}
 use borrow.Author.Needs.{needs}
-use Rattle.matrix.proofs.Sizes.{bounds}
+use Rattle.sizes.proofs.Sizes.{bounds}
 use Rattle.matrix.proofs.Results.{answered-value, refused-number}
 use Rattle.sqrt_steps.proofs.Columns.{when-turned, when-refused}
 use Rattle.sqrt_steps.proofs.rotate.Statement.{statement}

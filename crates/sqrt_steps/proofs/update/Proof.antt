@@ -2,7 +2,7 @@
 use Prim.Native.Nat.{_-_, _≤_}
 use native.Mathlib.Omega.{arith}
 use borrow.Author.Needs.{needs}
-use Rattle.matrix.proofs.Sizes.{bounds}
+use Rattle.sizes.proofs.Sizes.{bounds}
 use Rattle.sqrt_steps.proofs.Updates.{Taking, taking-none, taking-more, taking-refused, taking-all, by-size}
 use Rattle.sqrt_steps.proofs.update.Statement.{statement}
 use Rattle.sqrt_steps.proofs.update.Tie as tie

@@ -1,6 +1,6 @@
 -- `corrected_state` meets its contract: all four components are made, and the used ones taken.
 use mathlib.Core.Path.{_∙_}
-use Rattle.matrix.proofs.Sizes.{bounds}
+use Rattle.sizes.proofs.Sizes.{bounds}
 use Rattle.filtering.specs.Filter.{correctedState}
 use Rattle.steps.proofs.Vectors.{vector-of-cut, vector-of-product, vector-of-sum, vector-leading}
 use borrow.Author.Needs.{needs}

@@ -1,6 +1,6 @@
 -- `innovation` meets its contract: all four components are made, and the used ones taken.
 use mathlib.Core.Path.{_∙_}
-use Rattle.matrix.proofs.Sizes.{bounds}
+use Rattle.sizes.proofs.Sizes.{bounds}
 use Rattle.filtering.specs.Filter.{innovation}
 use Rattle.steps.proofs.Vectors.{vector-of-cut, vector-of-product, vector-of-difference, vector-leading}
 use borrow.Author.Needs.{needs}

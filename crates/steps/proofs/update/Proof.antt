@@ -5,7 +5,7 @@ use lib.Ieee.{Float}
 use Rattle.answer.specs.Answer.{answered}
 use Rattle.algebra.specs.Inverse.{inv}
 use Rattle.algebra.proofs.Inverses.{inv-shape}
-use Rattle.matrix.specs.Size.{count, part}
+use Rattle.sizes.specs.Size.{count, part}
 use Rattle.inverse.proofs.Results.{was-answered, was-refused}
 use Rattle.steps.proofs.Ways.{S, inversion, when-answered, when-refused}
 use borrow.Author.Needs.{needs}

@@ -2,7 +2,7 @@
 use mathlib.Core.Path.{sym, _∙_}
 use Rattle.algebra.specs.Matrix.{matvec}
 use Rattle.algebra.specs.Array.{cut, used, padRow}
-use Rattle.matrix.proofs.Sizes.{applicable-sizes, is-count}
+use Rattle.sizes.proofs.Sizes.{applicable-sizes, is-count}
 use Rattle.matrix.proofs.Results.{vector-answered, vector-refused}
 use Rattle.vector.proofs.matvec.Statement.{statement}
 use Rattle.vector.proofs.matvec.Tie as tie

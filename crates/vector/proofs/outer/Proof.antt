@@ -1,7 +1,7 @@
 -- `outer` meets its contract: its two ways out are those of the test of sizes, and the rows are the used part of those of `outer_rows`.
 use mathlib.Core.Path.{sym, ap, _∙_}
 use Rattle.algebra.specs.Array.{used, pad}
-use Rattle.matrix.proofs.Sizes.{sizes-of, bounds-of, is-count}
+use Rattle.sizes.proofs.Sizes.{sizes-of, bounds-of, is-count}
 use Rattle.matrix.proofs.Results.{matrix-answered, matrix-refused}
 use Rattle.vector.proofs.Sized.{used-outer}
 use Rattle.vector.proofs.outer.Statement.{statement}

@@ -1,9 +1,9 @@
 -- `vec_dot` meets its contract: the sum reads used components only.
 use mathlib.Core.Path.{sym, _∙_}
 use Rattle.algebra.proofs.Vectors.{dot-cut}
-use Rattle.matrix.proofs.Sizes.{bounds-of, paired-size}
+use Rattle.sizes.proofs.Sizes.{bounds-of, paired-size}
 use Rattle.matrix.proofs.Results.{scalar-answered, scalar-refused}
-use Rattle.matrix.proofs.Kernels.{dot-sized}
+use Rattle.rows.proofs.Kernels.{dot-sized}
 use Rattle.vector.proofs.vec_dot.Statement.{statement}
 use Rattle.vector.proofs.vec_dot.Tie as tie
 

@@ -3,9 +3,9 @@ use mathlib.Core.Path.{sym, ap, _∙_}
 use Rattle.root.specs.Root.{root}
 use Rattle.algebra.specs.Matrix.{vecNorm}
 use Rattle.algebra.proofs.Vectors.{dot-cut}
-use Rattle.matrix.proofs.Sizes.{bounds-of}
+use Rattle.sizes.proofs.Sizes.{bounds-of}
 use Rattle.matrix.proofs.Results.{scalar-answered, scalar-refused}
-use Rattle.matrix.proofs.Kernels.{dot-sized}
+use Rattle.rows.proofs.Kernels.{dot-sized}
 use Rattle.vector.proofs.vec_norm.Statement.{statement}
 use Rattle.vector.proofs.vec_norm.Tie as tie
 

@@ -3,9 +3,9 @@ use mathlib.Core.Path.{sym, _∙_}
 use Rattle.scalar.specs.Number.{_⊗_}
 use Rattle.algebra.specs.Matrix.{vecScale}
 use Rattle.algebra.specs.Array.{cut}
-use Rattle.matrix.proofs.Sizes.{bounds}
+use Rattle.sizes.proofs.Sizes.{bounds}
 use Rattle.matrix.proofs.Results.{vector-refused}
-use Rattle.matrix.proofs.Kernels.{leading-each}
+use Rattle.rows.proofs.Kernels.{leading-each}
 use Rattle.vector.proofs.Sized.{vector-at}
 use Rattle.vector.proofs.vec_scale.Statement.{statement}
 use Rattle.vector.proofs.vec_scale.Tie as tie

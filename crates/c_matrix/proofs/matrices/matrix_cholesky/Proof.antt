@@ -4,8 +4,8 @@ use Prim.Native.Nat.{ℕ, _*_}
 use native.Mathlib.Omega.{arith}
 use Rattle.algebra.specs.Cholesky.{cholesky}
 use Rattle.algebra.proofs.Factors.{shape-cholesky}
-use Rattle.matrix.specs.Size.{count}
-use Rattle.matrix.proofs.Sizes.{bounds, bounds-of}
+use Rattle.sizes.specs.Size.{count}
+use Rattle.sizes.proofs.Sizes.{bounds, bounds-of}
 use Rattle.c_matrix.specs.Slices.{rows}
 use Rattle.c_matrix.proofs.Products.{rows-in}
 use Rattle.c_matrix.proofs.Ways.{Two, two-of, rows-at, answer-handed, if-refuses, none}

@@ -9,9 +9,9 @@ use Rattle.answer.proofs.Tables.{length-table}
 use Rattle.algebra.specs.Matrix.{mul}
 use Rattle.algebra.specs.Array.{used}
 use Rattle.algebra.proofs.Matrices.{shape-mul}
-use Rattle.matrix.specs.declared.Size.{Size}
-use Rattle.matrix.specs.Size.{count}
-use Rattle.matrix.proofs.Sizes.{bounds}
+use Rattle.sizes.specs.declared.Size.{Size}
+use Rattle.sizes.specs.Size.{count}
+use Rattle.sizes.proofs.Sizes.{bounds}
 use Rattle.layout.specs.Layout.{joined, placed, matrixAt}
 use Rattle.layout.proofs.Places.{placed-whole}
 use Rattle.layout.proofs.Rows.{length-rows}

@@ -2,7 +2,7 @@
 use mathlib.Core.Path.{refl, sym, _∙_}
 use Rattle.answer.specs.declared.Status.the-variants.{Done}
 use Rattle.algebra.specs.Array.{used, pad, flatOfRows}
-use Rattle.matrix.proofs.Sizes.{sizes-of, is-count}
+use Rattle.sizes.proofs.Sizes.{sizes-of, is-count}
 use Rattle.matrix.proofs.Results.{as-answered, as-refused}
 use Rattle.elementwise.specs.Record.{recordOf, madeOf}
 use Rattle.elementwise.proofs.Matrix.from_rows.Statement.{statement}

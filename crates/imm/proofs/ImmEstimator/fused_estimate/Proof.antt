@@ -1,7 +1,7 @@
 -- `fused_estimate` meets its contract.
 use mathlib.Core.Path.{refl, sym, ap, _∙_}
 use Rattle.algebra.specs.Array.{padRow}
-use Rattle.matrix.proofs.Sizes.{is-count}
+use Rattle.sizes.proofs.Sizes.{is-count}
 use Rattle.matrix.proofs.Results.{vector-answered, vector-refused}
 use Rattle.steps.proofs.Sizes.{well-sized}
 use Rattle.imm_steps.proofs.Holders.{fused-held}

@@ -1,7 +1,7 @@
 -- `mix_estimates` meets its contract: the record around the rows of the step.
 use mathlib.Core.Path.{refl, sym, _∙_}
 use Rattle.answer.specs.declared.Status.the-variants.{Done}
-use Rattle.matrix.proofs.Sizes.{is-count}
+use Rattle.sizes.proofs.Sizes.{is-count}
 use Rattle.matrix.proofs.Results.{as-answered, as-refused}
 use Rattle.mixing.specs.Mixing.{mixEstimates}
 use Rattle.steps.proofs.Sizes.{well-sized}

@@ -5,7 +5,7 @@ use Prim.Native.Nat.{_<_}
 use lib.Dec.{ltb}
 use native.Mathlib.Omega.{arith}
 use borrow.Author.Tests.{lt-ltb, le-ltb}
-use Rattle.matrix.proofs.Sizes.{bounds-of}
+use Rattle.sizes.proofs.Sizes.{bounds-of}
 use Rattle.matrix.proofs.Results.{scalar-answered, scalar-refused}
 use Rattle.steps.proofs.Sizes.{well-sized}
 use Rattle.imm.proofs.ImmEstimator.model_probability.Statement.{statement}

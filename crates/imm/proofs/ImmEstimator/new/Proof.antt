@@ -5,7 +5,7 @@ use Prim.Native.Nat.{ℕ}
 use lib.Ieee.{Float}
 use Rattle.answer.specs.declared.Status.the-variants.{Done, Refused}
 use Rattle.algebra.specs.Array.{used, padRow, pad, flatOfRows}
-use Rattle.matrix.proofs.Sizes.{is-count}
+use Rattle.sizes.proofs.Sizes.{is-count}
 use Rattle.matrix.proofs.Results.{as-answered, as-refused}
 use Rattle.mixing.specs.Mixing.{uniform}
 use Rattle.steps.proofs.Sizes.{well-sized}

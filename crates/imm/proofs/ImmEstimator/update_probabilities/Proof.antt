@@ -2,7 +2,7 @@
 use mathlib.Core.Path.{refl, sym, ap, _∙_}
 use Rattle.answer.specs.declared.Status.the-variants.{Done}
 use Rattle.algebra.specs.Array.{padRow}
-use Rattle.matrix.proofs.Sizes.{is-count}
+use Rattle.sizes.proofs.Sizes.{is-count}
 use Rattle.matrix.proofs.Results.{as-answered, as-refused}
 use Rattle.mixing.specs.Mixing.{updateProbabilities}
 use Rattle.steps.proofs.Sizes.{well-sized}

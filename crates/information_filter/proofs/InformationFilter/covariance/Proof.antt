@@ -2,9 +2,9 @@
 use mathlib.Core.Path.{sym, _∙_}
 use Rattle.algebra.specs.Array.{usedFlat}
 use Rattle.algebra.specs.Inverse.{inv}
-use Rattle.matrix.specs.Size.{count}
+use Rattle.sizes.specs.Size.{count}
 use Rattle.matrix.specs.Result.{asMatrix}
-use Rattle.matrix.proofs.Sizes.{is-count}
+use Rattle.sizes.proofs.Sizes.{is-count}
 use Rattle.matrix.proofs.Results.{if-answered, if-refused}
 use Rattle.filtering.specs.Information.{covariance}
 use Rattle.steps.proofs.Sizes.{well-sized}

@@ -6,7 +6,7 @@ use Rattle.answer.specs.Answer.{mapped}
 use Rattle.answer.specs.Outcome.{into, handed}
 use Rattle.answer.specs.Told.{statusOf}
 use Rattle.algebra.specs.Array.{pad, padRow}
-use Rattle.matrix.proofs.Sizes.{is-count}
+use Rattle.sizes.proofs.Sizes.{is-count}
 use Rattle.matrix.proofs.Results.{if-refused}
 use Rattle.filtering.specs.Information.{ofEstimate}
 use Rattle.steps.specs.Flat.{motionFrom, sensorFrom, estimateFrom}

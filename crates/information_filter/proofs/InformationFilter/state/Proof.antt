@@ -1,8 +1,8 @@
 -- `state` meets its contract.
 use mathlib.Core.Path.{sym, ap, _∙_}
-use Rattle.matrix.specs.Size.{count}
+use Rattle.sizes.specs.Size.{count}
 use Rattle.matrix.specs.Result.{asVector}
-use Rattle.matrix.proofs.Sizes.{is-count}
+use Rattle.sizes.proofs.Sizes.{is-count}
 use Rattle.matrix.proofs.Results.{if-answered, if-refused}
 use Rattle.filtering.specs.Information.{state}
 use Rattle.steps.proofs.Sizes.{well-sized}

@@ -1,7 +1,7 @@
 -- `new` meets its contract.
 use mathlib.Core.Path.{sym, _∙_}
 use Rattle.answer.specs.declared.Status.the-variants.{Done, Refused}
-use Rattle.matrix.proofs.Sizes.{is-count}
+use Rattle.sizes.proofs.Sizes.{is-count}
 use Rattle.matrix.proofs.Results.{as-answered, as-refused}
 use Rattle.steps.proofs.Sizes.{well-sized}
 use Rattle.kalman.specs.Record.{made}

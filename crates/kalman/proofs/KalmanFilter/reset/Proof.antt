@@ -2,7 +2,7 @@
 use mathlib.Core.Path.{refl, sym, _∙_}
 use Rattle.answer.specs.declared.Status.the-variants.{Done}
 use Rattle.answer.specs.Outcome.{into}
-use Rattle.matrix.proofs.Sizes.{is-count}
+use Rattle.sizes.proofs.Sizes.{is-count}
 use Rattle.matrix.proofs.Results.{as-answered, as-refused}
 use Rattle.steps.specs.Flat.{estimateFrom}
 use Rattle.kalman.specs.Record.{keeping, stepped}

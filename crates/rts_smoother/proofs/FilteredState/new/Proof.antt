@@ -1,7 +1,7 @@
 -- `FilteredState::new` meets its contract.
 use mathlib.Core.Path.{refl, sym, _∙_}
 use Rattle.algebra.specs.Array.{pad, flatOfRows}
-use Rattle.matrix.proofs.Sizes.{is-count}
+use Rattle.sizes.proofs.Sizes.{is-count}
 use Rattle.matrix.proofs.Results.{as-refused}
 use Rattle.rts_smoother.specs.Record.{stateResult}
 use Rattle.rts_smoother.proofs.Records.{state-done}

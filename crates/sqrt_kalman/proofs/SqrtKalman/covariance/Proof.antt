@@ -3,8 +3,8 @@ use mathlib.Core.Path.{sym, ap, _∙_}
 use mathlib.Core.List.{[]}
 use Prim.Native.Nat.{ℕ}
 use Rattle.algebra.specs.Array.{pad}
-use Rattle.matrix.specs.Size.{count}
-use Rattle.matrix.proofs.Sizes.{is-count}
+use Rattle.sizes.specs.Size.{count}
+use Rattle.sizes.proofs.Sizes.{is-count}
 use Rattle.matrix.proofs.Results.{matrix-answered, matrix-refused}
 use Rattle.filtering.specs.SquareRoot.{Factored, covariance}
 use Rattle.steps.proofs.Sizes.{well-sized}
