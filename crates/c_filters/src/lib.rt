@@ -203,11 +203,11 @@ pub fn kalman_update(
         innovation.len() == 1,
     ) {
         let f = road_at(filter);
-        let v = road::update(f.h0, f.h1, f.r, z[0], f.pair);
+        let v = road::innovation(f.h0, f.h1, f.r, z[0], f.pair);
         let answer = v.answer;
         match answer {
             ScalarResult::Value(y) => {
-                let e = v.pair;
+                let e = road::corrected(f.h0, f.h1, f.pair, y, v.inverse);
                 put_road(filter, e);
                 innovation[0] = y;
                 return 0;

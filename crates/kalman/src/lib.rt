@@ -118,13 +118,14 @@ fn update_road<'a>(
         (v, (now (x .exit), now (p .exit))) ≡ handed asVector flatsOf (now (x .entry), now (p .entry))
         (updateFlat 2 1 (now (h .entry)) (now (r .entry)) (cut 1 (now (z .entry))) (now (x .entry)) (now (p .entry))) ⌝ }
 {
-    let v = road::update(h[0], h[1], r[0], z[0], pair_in(x, p));
+    let e = pair_in(x, p);
+    let v = road::innovation(h[0], h[1], r[0], z[0], e);
     let answer = v.answer;
     match answer {
         ScalarResult::Value(y) => {
-            let e = v.pair;
-            *x = [e.x0, e.x1, 0.0, 0.0];
-            *p = flat_two(e.p);
+            let g = road::corrected(h[0], h[1], e, y, v.inverse);
+            *x = [g.x0, g.x1, 0.0, 0.0];
+            *p = flat_two(g.p);
             matrix::vector_result(Status::Done, [y, 0.0, 0.0, 0.0])
         }
         ScalarResult::Refused(number) => matrix::vector_refused(number),

@@ -15,7 +15,7 @@ use Rattle.inverse.proofs.Two.{number-is}
 use Rattle.filtering.specs.Filter.{Estimate, propagated, innovation}
 use Rattle.filtering.specs.Linear.{correction, update}
 use Rattle.road.specs.declared.Pair.{Pair}
-use Rattle.road.specs.Road.{sensorOf, estimateOf, correctedOf, updatedOf}
+use Rattle.road.specs.Road.{sensorOf, estimateOf, correctedOf, correctedBy, updatedOf}
 
 module _ (h0 h1 r z : Float) (e : Pair) where
   -- H P Hᵀ + R, and z - H x, as the code has them
@@ -32,10 +32,15 @@ module _ (h0 h1 r z : Float) (e : Pair) where
   unfolding update propagated sumFrom mul transpose add
   inverted q = sym (ap of (number-is variance ∙ ap (mapped oneByOne) q))
 
-  pub when-answered : {w : Float} {g : Estimate} → invNumber variance ≡ answered w → g ≡ correctedOf h0 h1 (estimateOf e) residual w
-      → (Scalar.Value residual, g) ≡ updatedOf (estimateOf e) (update (sensorOf h0 h1 r) (z ∷ []) (estimateOf e))
+  pub when-answered : {w : Float} → invNumber variance ≡ answered w
+      → (Scalar.Value residual, correctedOf h0 h1 (estimateOf e) residual w) ≡ updatedOf (estimateOf e) (update (sensorOf h0 h1 r) (z ∷ []) (estimateOf e))
   unfolding correction innovation vecSub matvec sumFrom
-  when-answered q f = (λ i. (Scalar.Value residual, f i)) ∙ inverted q
+  when-answered q = inverted q
 
   pub when-refused : {k : ℕ} → invNumber variance ≡ refused k → (Scalar.Refused k, estimateOf e) ≡ updatedOf (estimateOf e) (update (sensorOf h0 h1 r) (z ∷ []) (estimateOf e))
   when-refused q = inverted q
+
+-- the two parts of an update, where an innovation is told
+pub corrected-by : (h0 h1 w : Float) (e : Estimate) {y : Float} {g : Estimate} {a : ScalarResult} {t : ScalarResult × Estimate} → a ≡ Scalar.Value y → g ≡ correctedOf h0 h1 e y w
+    → (a, correctedBy h0 h1 e a w) ≡ t → (a, g) ≡ t
+corrected-by h0 h1 w e {a = a} q f s = (λ i. (a, (f ∙ ap (λ (b : ScalarResult). correctedBy h0 h1 e b w) (sym q)) i)) ∙ s

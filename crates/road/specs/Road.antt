@@ -4,6 +4,7 @@ use lib.Ieee.{Float}
 use Rattle.answer.specs.Outcome.{Outcome, handed}
 use Rattle.algebra.specs.Matrix.{Vector, Matrix}
 use Rattle.matrix.specs.declared.ScalarResult.{ScalarResult}
+use Rattle.matrix.specs.declared.ScalarResult.the-variants as Scalar
 use Rattle.matrix.specs.Result.{asOne}
 use Rattle.filtering.specs.Filter.{Motion, Sensor, Estimate, estimate, gain, correctedState, correctedCovariance}
 use Rattle.road.specs.declared.Two.{Two}
@@ -42,6 +43,11 @@ correctedOf h0 h1 e y w =
     let H = (h0 ∷ h1 ∷ []) ∷ [] in
     let K = gain 2 1 (e .covariance) H ((w ∷ []) ∷ []) in
     estimate (correctedState 2 1 K (y ∷ []) (e .state)) (correctedCovariance 2 1 K H (e .covariance))
+
+-- by what an update tells: the innovation, or a refusal
+abbrev pub correctedBy : Float → Float → Estimate → ScalarResult → Float → Estimate
+correctedBy h0 h1 e (Scalar.Value y) w = correctedOf h0 h1 e y w
+correctedBy h0 h1 e (Scalar.Refused k) w = e
 
 -- what an update tells, the one innovation as a number, and leaves
 abbrev pub updatedOf : Estimate → Outcome Estimate Vector → ScalarResult × Estimate

@@ -5,7 +5,7 @@ ghost use mathlib.Core.List.{[], _∷_};
 ghost use Rattle.answer.specs.Outcome.{done};
 ghost use Rattle.filtering.specs.Filter.{gain as gainOf};
 ghost use Rattle.filtering.specs.Linear.{predict as predictOf, update as updateOf};
-ghost use Rattle.road.specs.Road.{matrixOf, motionOf, sensorOf, estimateOf, roadOf, trackerOf, correctedOf, updatedOf};
+ghost use Rattle.road.specs.Road.{matrixOf, motionOf, sensorOf, estimateOf, roadOf, trackerOf, correctedOf, correctedBy, updatedOf};
 use matrix::ScalarResult;
 
 // The rows (a, b) and (c, d).
@@ -23,10 +23,10 @@ pub struct Pair {
     pub p: Two,
 }
 
-// An update's answer, the innovation or the refusal, and the pair that it leaves.
-pub struct PairUpdated {
+// An update's answer, the innovation or the refusal, and the inverted innovation variance.
+pub struct Innovated {
     pub answer: ScalarResult,
-    pub pair: Pair,
+    pub inverse: f64,
 }
 
 // A road's filter: a, b, h, q and r, and the pair.
@@ -119,8 +119,32 @@ pub fn gain(p: Two, h: Two, w: Two) -> Two
     }
 }
 
-// What the inverted innovation variance w leads to, with the innovation y.
-fn corrected(h0: f64, h1: f64, e: Pair, y: f64, w: f64) -> Pair
+// An update by the measurement z is two functions, so that each is short enough to be inlined wherever it is called: first its
+// answer. Refused with 3: inversion rejects the innovation variance; the pair stays.
+pub fn innovation(h0: f64, h1: f64, r: f64, z: f64, e: Pair) -> Innovated
+    ensures { λ v. ⌜
+        (v .answer, correctedBy h0 h1 (estimateOf e) (v .answer) (v .inverse))
+        ≡ updatedOf (estimateOf e) (updateOf (sensorOf h0 h1 r) (z ∷ []) (estimateOf e)) ⌝ }
+{
+    let p = e.p;
+    let s0 = 0.0 + h0 * p.a + h1 * p.c;
+    let s1 = 0.0 + h0 * p.b + h1 * p.d;
+    let s = (0.0 + s0 * h0 + s1 * h1) + r;
+    let inverted = inverse::inverse_number(s);
+    match inverted {
+        ScalarResult::Value(w) => Innovated {
+            answer: ScalarResult::Value(z - (0.0 + h0 * e.x0 + h1 * e.x1)),
+            inverse: w,
+        },
+        ScalarResult::Refused(number) => Innovated {
+            answer: ScalarResult::Refused(number),
+            inverse: 0.0,
+        },
+    }
+}
+
+// What the innovation y and the inverted innovation variance w lead to: the rest of an update.
+pub fn corrected(h0: f64, h1: f64, e: Pair, y: f64, w: f64) -> Pair
     ensures { λ r. ⌜ estimateOf r ≡ correctedOf h0 h1 (estimateOf e) y w ⌝ }
 {
     let p = e.p;
@@ -138,30 +162,6 @@ fn corrected(h0: f64, h1: f64, e: Pair, y: f64, w: f64) -> Pair
             b: 0.0 + s0 * p.b + s1 * p.d,
             c: 0.0 + t0 * p.a + t1 * p.c,
             d: 0.0 + t0 * p.b + t1 * p.d,
-        },
-    }
-}
-
-// Corrected by the measurement z. Refused with 3: inversion rejects the innovation variance; the pair stays.
-pub fn update(h0: f64, h1: f64, r: f64, z: f64, e: Pair) -> PairUpdated
-    ensures { λ v. ⌜ (v .answer, estimateOf (v .pair)) ≡ updatedOf (estimateOf e) (updateOf (sensorOf h0 h1 r) (z ∷ []) (estimateOf e)) ⌝ }
-{
-    let p = e.p;
-    let s0 = 0.0 + h0 * p.a + h1 * p.c;
-    let s1 = 0.0 + h0 * p.b + h1 * p.d;
-    let s = (0.0 + s0 * h0 + s1 * h1) + r;
-    let inverted = inverse::inverse_number(s);
-    match inverted {
-        ScalarResult::Value(w) => {
-            let y = z - (0.0 + h0 * e.x0 + h1 * e.x1);
-            PairUpdated {
-                answer: ScalarResult::Value(y),
-                pair: corrected(h0, h1, e, y, w),
-            }
-        }
-        ScalarResult::Refused(number) => PairUpdated {
-            answer: ScalarResult::Refused(number),
-            pair: e,
         },
     }
 }

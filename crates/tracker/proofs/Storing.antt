@@ -17,7 +17,7 @@ use Rattle.smoothing.specs.Smoother.{Slot}
 use Rattle.duty.specs.Buffer.{pairAt, slotNumbers, slotsOf, dutyOf}
 use Rattle.rts_road.specs.Slot.{slotOfTwo}
 use Rattle.duty.proofs.Pairs.{Paired, paired-at}
-use Rattle.rts_smoother.proofs.Stores.{Slotted, stored-slots}
+use Rattle.duty.proofs.Stores.{Slotted, stored-slots}
 use Rattle.tracking.specs.Track.{Tracked, rejected, tracked, and-then, at-reading, filter, slotOf, slotsFrom}
 
 -- ---- readings one after another

@@ -65,13 +65,12 @@ fn corrected(f: Road, reading: Reading, e: Pair) -> Filtered
     ensures { λ r. ⌜ answerOf (r .answer) (estimateOf (r .pair)) ≡ correctedOf (sensorIn f) (measuredOf reading) (estimateOf e) ⌝ }
 {
     if reading.taken {
-        let updated = road::update(f.h0, f.h1, f.r, reading.metres, e);
-        let answer = updated.answer;
-        let pair = updated.pair;
+        let found = road::innovation(f.h0, f.h1, f.r, reading.metres, e);
+        let answer = found.answer;
         match answer {
-            ScalarResult::Value(innovation) => Filtered {
+            ScalarResult::Value(y) => Filtered {
                 answer: Status::Done,
-                pair,
+                pair: road::corrected(f.h0, f.h1, e, y, found.inverse),
             },
             ScalarResult::Refused(number) => Filtered {
                 answer: Status::Refused(number),

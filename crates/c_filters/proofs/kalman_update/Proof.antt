@@ -6,6 +6,8 @@ use lib.Dec.{eqb}
 use lib.ListN.{length}
 use borrow.Author.Tests.{eqb-true}
 use Rattle.answer.proofs.Choice.{and-left, and-right}
+use Rattle.road.specs.Road.{estimateOf}
+use Rattle.road.proofs.Roads.{corrected-by}
 use Rattle.c_filters.specs.Filter.{isRoad}
 use borrow.Author.Needs.{needs}
 use Rattle.c_filters.proofs.Roads.{Road, road-of, updates, refuses}
@@ -29,12 +31,15 @@ room c =
 returns : tie.Need-returns
 returns c =
     let put = c .before .before in
-    let told = put .before .before .before in
-    let step = told .before .before .before in
+    let right = put .before .before in
+    let told = right .before .before .answer .given .1 in
+    let step = right .before .before .before .before in
     let f = step .before .before in
     let t = f .before .before in
     let a = t .before .before .before .before .before .before .args in
-    updates (a .filter .now) (a .z .now) (a .innovation .now) (road t) (room t) (f .road-at .ensures) (step .update .ensures) (told .before .answer .given .1) (put .put-road .ensures)
+    let r = f .road-at .result in
+    let s = corrected-by (r .h0) (r .h1) (step .innovation .result .inverse) (estimateOf (r .pair)) told (right .corrected .ensures) (step .innovation .ensures) in
+    updates (a .filter .now) (a .z .now) (a .innovation .now) (road t) (room t) (f .road-at .ensures) s told (put .put-road .ensures)
 
 returns-2 : tie.Need-returns-2
 returns-2 c =
@@ -43,13 +48,13 @@ returns-2 c =
     let f = step .before .before in
     let t = f .before .before in
     let a = t .before .before .before .before .before .before .args in
-    refuses (a .filter .now) (a .z .now) (a .innovation .now) (road t) (room t) (f .road-at .ensures) (step .update .ensures) (told .answer2 .given .1)
+    refuses (a .filter .now) (a .z .now) (a .innovation .now) (road t) (room t) (f .road-at .ensures) (step .innovation .ensures) (told .answer2 .given .1)
 
 pub kalman-update-spec : {M : Type 1} → statement M
 kalman-update-spec =
     tie.close
     (tie.spec (λ c κs. search needs) (λ c κs. search needs) (λ c κs. road (c .before) .long)
-    (λ c. omega (arith, road (c .before .before .before) .one)) (λ c κs. search needs) (λ c. search needs)
+    (λ c. omega (arith, road (c .before .before .before) .one)) (λ c κs. search needs) (λ c. search needs) (λ c κs. search needs)
     (λ c κs. road (c .before .before .before .before .before .before .before .before .before) .long)
     (λ c. omega (arith, room (c .before .before .before .before .before .before .before .before .before .before .before .before)))
     (λ c. search needs) (λ c. search needs) returns (λ c. search needs) (λ c. search needs) returns-2
