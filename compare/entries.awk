@@ -26,7 +26,7 @@ function declaration(text,    open, head, words, parameters, count, k, list, sli
   slices = 0
   for (k = 1; k <= count; k++) {
     list = list (k > 1 ? ", " : "") parameter(parameters[k])
-    slices += parameters[k] ~ /^ *size_t [a-z0-9_]+_len$/ && parameters[k - 1] ~ /double \*/
+    slices += parameters[k] ~ /^ *(size_t|uint64_t) [a-z0-9_]+_len$/ && parameters[k - 1] ~ /double \*/
   }
   functions = functions "    pub fn " words[2] "(" list ") -> " rust[words[1]] ";\n"
   table = table "    (\"" words[2] "\", " slices "),\n"
@@ -36,12 +36,15 @@ BEGIN {
   rust["double"] = "f64"
   rust["int32_t"] = "i32"
   rust["size_t"] = "usize"
+  rust["uint64_t"] = "usize"
   rust["uint8_t"] = "u8"
+  rust["ESTIMATORS_TOLD"] = "u8"
   rust["double *"] = "*mut f64"
   rust["const double *"] = "*const f64"
   rust["uint8_t *"] = "*mut u8"
   rust["const uint8_t *"] = "*const u8"
   rust["size_t *"] = "*mut usize"
+  rust["uint64_t *"] = "*mut usize"
   rust["bool *"] = "*mut u8"
 }
 
@@ -60,7 +63,7 @@ END {
   count = split(text, declarations, ";")
   for (k = 1; k <= count; k++) {
     gsub(/^ | $/, "", declarations[k])
-    if (declarations[k] != "") declaration(declarations[k])
+    if (declarations[k] != "" && declarations[k] !~ /^typedef /) declaration(declarations[k])
   }
   print "#[link(name = \"estimators\", kind = \"static\")]\nextern \"C\" {\n" functions "}\n"
   print "/// Each function, and how many slices of doubles it takes.\npub const SLICES: &[(&str, usize)] = &[\n" table "];"

@@ -1,32 +1,79 @@
 /*
  * The verified estimators for C: matrices, the linear, information and square-root Kalman filters, model mixing, the
  * Rauch-Tung-Striebel smoother and the depot sheet.
- * Link libestimators.a, which `rt staticlib estimators` writes; it needs no other library.
+ * Link libestimators.a, which `rt staticlib estimators` proves and writes. It calls memcpy and memset, which every C
+ * library has, and nothing else: firmware without a C library has to supply these two.
  *
  * Numbers are IEEE 754 doubles and may hold any bits. A matrix is its cells by rows, used sizes only: R x C is
- * R * C doubles. Sizes are 1 to 4, a smoother's room is 1 to 64 slots.
+ * R * C doubles. Sizes are 1 to ESTIMATORS_MAX_SIZE, a smoother's room is 1 to ESTIMATORS_MAX_SLOTS slots. Lengths and
+ * sizes have 64 bits on every machine, also where size_t has 32.
  *
- * A slice is a pointer and then how many doubles (or bytes) it holds. What no function can test is the caller's part: no
- * pointer is NULL, not even one with a length of 0; behind it stand as many doubles as the length says, aligned, to be read
- * and, unless it is const, written; and what a call may write through one pointer, it reaches through no other.
+ * What is told. A function that can refuse returns ESTIMATORS_OK or the first refusal that applies. Then nothing is
+ * written, but for three functions, whose refusal can leave a changed filter: information_update, sqrt_kalman_predict and
+ * sqrt_kalman_update, which say what they leave. A depot sheet's refusals are lines of its report, and not returned.
  *
- * A function that can refuse returns 0, or the first of these numbers that applies. Then nothing is written, but for three
- * functions, whose refusal can leave a changed filter: information_update, sqrt_kalman_predict and sqrt_kalman_update, which
- * say what they leave.
- *   1  a size outside its limits, sizes that disagree, or a slice of another length than is stated; always unchanged
- *   2  smoothing with no slot stored
- *   3  a matrix that inversion rejects, or a measured component without a variance
- *   4  a matrix that has no Cholesky factor, or a factor that cannot be downdated
- *   5  a smoother's buffer that is full
- *   6  a slot that is not stored
- * The refusals of a depot sheet are lines of its report, and no numbers returned.
+ * What the caller sees to, because no function can test it:
+ *   - A slice is a pointer and then how many doubles (or bytes) it holds. No pointer is NULL, not even one with a length of
+ *     0; behind it stand as many doubles as the length says, aligned, to be read and, unless it is const, written.
+ *   - What a call may write through one pointer, it reaches through no other: out is another slice than the inputs, and a
+ *     filter does not overlap its measurement. There is no promise for a call in place.
+ *   - The floating-point environment is that of a program's start: round to nearest, subnormal numbers kept. No flush to
+ *     zero, and nothing in the process that turns it on (such as linking with -ffast-math): with it even the root of
+ *     2^-1074 is wrong.
+ *   - A NaN or an infinity is a number like any other: a step takes it in, tells ESTIMATORS_OK, and from then on the filter
+ *     holds NaNs. Test a sensor's reading with isfinite first.
+ *   - What is lent is not changed by anybody else during the call.
+ *
+ * How to
+ *   - A reading that is missing: predict and no update. The slot for the smoother is stored as usual.
+ *   - A model without an input: i = 1, with b and u zero.
+ *   - A copy of a filter or of a bank is a copy of its numbers. One that was refused on the way stays as it was.
+ *   - A filter from NaN back to numbers: the reset function of its kind.
+ *   - A duty of more than 64 readings: smooth it in parts, the last first. For the part before it take its own slots and, as
+ *     one slot more, the first slot of the part that was smoothed, with its smoothed pair for the filtered one. What is
+ *     smoothed so is, bit for bit, what one long pass would give: a pass reads of the next slot its smoothed pair alone.
+ *
+ * Threads: no function has state of its own, allocates, waits or keeps a pointer after it returned, so any number of
+ * threads may call any of them on buffers of their own, or read one buffer together.
+ *
+ * Every call ends. Stack on x86-64, without what memcpy and memset use: sheet_report 31.5 KB, rts_smoother_smooth
+ * 12.4 KB whatever its room, imm_mix_estimates 2.6 KB, every other function less than 2 KB (tools/stack lists them).
  */
 #ifndef ESTIMATORS_H
 #define ESTIMATORS_H
 
 #include <stdbool.h>
-#include <stddef.h>
 #include <stdint.h>
+
+/* Raised when a name, a layout, a number or what a call does is changed here. */
+#define ESTIMATORS_VERSION 1
+
+/* What is told. The text at each function says which of them it can tell, besides the first two. */
+#define ESTIMATORS_OK 0
+#define ESTIMATORS_REFUSED_SIZE 1    /* a size or a length that is not as stated; always unchanged */
+#define ESTIMATORS_REFUSED_EMPTY 2   /* smoothing with no slot stored */
+#define ESTIMATORS_REFUSED_INVERSE 3 /* a matrix that inversion rejects, or a measured component without a variance */
+#define ESTIMATORS_REFUSED_FACTOR 4  /* a matrix that has no Cholesky factor, or a factor that cannot be downdated */
+#define ESTIMATORS_REFUSED_FULL 5    /* a smoother's buffer that is full */
+#define ESTIMATORS_REFUSED_SLOT 6    /* a slot that is not stored */
+/* In the report of a depot sheet, besides ESTIMATORS_REFUSED_INVERSE: */
+#define ESTIMATORS_SHEET_FORM 7     /* the form of a line, or a missing or extra line */
+#define ESTIMATORS_SHEET_RANGE 8    /* a field out of its range */
+#define ESTIMATORS_SHEET_POSITION 9 /* a position that is no number, or outside 7 digits */
+
+#define ESTIMATORS_MAX_SIZE 4   /* states, measurements, inputs and models: 1 to 4 */
+#define ESTIMATORS_MAX_SLOTS 64 /* a smoother's room: 1 to 64 slots */
+
+/* The type of what is told. It has to be looked at; compilers that can, warn where it is not. */
+#if defined(__GNUC__) || defined(__clang__)
+#define ESTIMATORS_TOLD __attribute__((warn_unused_result)) uint8_t
+#else
+#define ESTIMATORS_TOLD uint8_t
+#endif
+
+/* The widths that the code was compiled for: a negative length here is a machine that it does not fit. */
+typedef char estimators_assert_double_has_8_bytes[sizeof(double) == 8 ? 1 : -1];
+typedef char estimators_assert_bool_has_1_byte[sizeof(bool) == 1 ? 1 : -1];
 
 #ifdef __cplusplus
 extern "C" {
@@ -51,7 +98,7 @@ double scalar_from_int(int32_t v);
 double scalar_pid_abs(double x);
 double scalar_clamp_pid(double x, double min, double max);
 /* Six constants into out: ZERO, ONE, TWO, HALF, PI, EPSILON. Refused with 1: out is not 6 long. */
-uint8_t scalar_constants(double *out, size_t out_len);
+ESTIMATORS_TOLD scalar_constants(double *out, uint64_t out_len);
 
 /* ---- matrices (matrix.rs): r rows and c columns, by rows
  *
@@ -61,59 +108,66 @@ uint8_t scalar_constants(double *out, size_t out_len);
  */
 
 /* All cells +0: out is r x c. matrix_default is the same. */
-uint8_t matrix_zeros(size_t r, size_t c, double *out, size_t out_len);
-uint8_t matrix_default(size_t r, size_t c, double *out, size_t out_len);
+ESTIMATORS_TOLD matrix_zeros(uint64_t r, uint64_t c, double *out, uint64_t out_len);
+ESTIMATORS_TOLD matrix_default(uint64_t r, uint64_t c, double *out, uint64_t out_len);
 /* All cells val: out is r x c. */
-uint8_t matrix_filled(size_t r, size_t c, double val, double *out, size_t out_len);
+ESTIMATORS_TOLD matrix_filled(uint64_t r, uint64_t c, double val, double *out, uint64_t out_len);
 /* One on the diagonal and +0 elsewhere: out is n x n. */
-uint8_t matrix_identity(size_t n, double *out, size_t out_len);
+ESTIMATORS_TOLD matrix_identity(uint64_t n, double *out, uint64_t out_len);
 /* a (r x c) transposed: out is c x r. */
-uint8_t matrix_transpose(size_t r, size_t c, const double *a, size_t a_len, double *out, size_t out_len);
+ESTIMATORS_TOLD matrix_transpose(uint64_t r, uint64_t c, const double *a, uint64_t a_len,
+    double *out, uint64_t out_len);
 /* a + b and a - b, cell by cell: all three are r x c. */
-uint8_t matrix_add_mat(size_t r, size_t c, const double *a, size_t a_len, const double *b, size_t b_len,
-                       double *out, size_t out_len);
-uint8_t matrix_sub_mat(size_t r, size_t c, const double *a, size_t a_len, const double *b, size_t b_len,
-                       double *out, size_t out_len);
+ESTIMATORS_TOLD matrix_add_mat(uint64_t r, uint64_t c, const double *a, uint64_t a_len,
+    const double *b, uint64_t b_len, double *out, uint64_t out_len);
+ESTIMATORS_TOLD matrix_sub_mat(uint64_t r, uint64_t c, const double *a, uint64_t a_len,
+    const double *b, uint64_t b_len, double *out, uint64_t out_len);
 /* Each cell of a times s, and times -1: a and out are r x c. */
-uint8_t matrix_scale(size_t r, size_t c, const double *a, size_t a_len, double s, double *out, size_t out_len);
-uint8_t matrix_neg(size_t r, size_t c, const double *a, size_t a_len, double *out, size_t out_len);
+ESTIMATORS_TOLD matrix_scale(uint64_t r, uint64_t c, const double *a, uint64_t a_len, double s,
+    double *out, uint64_t out_len);
+ESTIMATORS_TOLD matrix_neg(uint64_t r, uint64_t c, const double *a, uint64_t a_len,
+    double *out, uint64_t out_len);
 /* The cell of a (r x c) in row i, column j, from 0. Refused with 1 also outside the matrix. */
-uint8_t matrix_get(size_t r, size_t c, size_t i, size_t j, const double *a, size_t a_len, double *out);
+ESTIMATORS_TOLD matrix_get(uint64_t r, uint64_t c, uint64_t i, uint64_t j, const double *a, uint64_t a_len,
+    double *out);
 /* a with val in row i, column j: a and out are r x c. Refused with 1 also outside the matrix. */
-uint8_t matrix_set(size_t r, size_t c, size_t i, size_t j, const double *a, size_t a_len, double val,
-                   double *out, size_t out_len);
+ESTIMATORS_TOLD matrix_set(uint64_t r, uint64_t c, uint64_t i, uint64_t j, const double *a, uint64_t a_len,
+    double val, double *out, uint64_t out_len);
 /* The root of the sum of the squares of all cells of a (r x c), row after row. */
-uint8_t matrix_frob_norm(size_t r, size_t c, const double *a, size_t a_len, double *out);
+ESTIMATORS_TOLD matrix_frob_norm(uint64_t r, uint64_t c, const double *a, uint64_t a_len, double *out);
 /* The sum of the diagonal of a (n x n). */
-uint8_t matrix_trace(size_t n, const double *a, size_t a_len, double *out);
+ESTIMATORS_TOLD matrix_trace(uint64_t n, const double *a, uint64_t a_len, double *out);
 /* Whether a and b (both r x c) are equal cell by cell: -0 equals +0, a NaN equals nothing. The bool holds false
  * or true before the call too: set it first. */
-uint8_t matrix_eq(size_t r, size_t c, const double *a, size_t a_len, const double *b, size_t b_len, bool *out);
+ESTIMATORS_TOLD matrix_eq(uint64_t r, uint64_t c, const double *a, uint64_t a_len,
+    const double *b, uint64_t b_len, bool *out);
 /* a (r x k) times b (k x c): out is r x c. */
-uint8_t matrix_matmul(size_t r, size_t k, size_t c, const double *a, size_t a_len, const double *b, size_t b_len,
-                      double *out, size_t out_len);
+ESTIMATORS_TOLD matrix_matmul(uint64_t r, uint64_t k, uint64_t c, const double *a, uint64_t a_len,
+    const double *b, uint64_t b_len, double *out, uint64_t out_len);
 /* a (r x c) times the vector v (c): out is a vector (r). */
-uint8_t matrix_matvec(size_t r, size_t c, const double *a, size_t a_len, const double *v, size_t v_len,
-                      double *out, size_t out_len);
+ESTIMATORS_TOLD matrix_matvec(uint64_t r, uint64_t c, const double *a, uint64_t a_len,
+    const double *v, uint64_t v_len, double *out, uint64_t out_len);
 /* The vector v (r) times the transposed vector w (c): out is r x c. */
-uint8_t matrix_outer(size_t r, size_t c, const double *v, size_t v_len, const double *w, size_t w_len,
-                     double *out, size_t out_len);
+ESTIMATORS_TOLD matrix_outer(uint64_t r, uint64_t c, const double *v, uint64_t v_len,
+    const double *w, uint64_t w_len, double *out, uint64_t out_len);
 /* v + w and v - w: all three are vectors (n). */
-uint8_t matrix_vec_add(size_t n, const double *v, size_t v_len, const double *w, size_t w_len,
-                       double *out, size_t out_len);
-uint8_t matrix_vec_sub(size_t n, const double *v, size_t v_len, const double *w, size_t w_len,
-                       double *out, size_t out_len);
+ESTIMATORS_TOLD matrix_vec_add(uint64_t n, const double *v, uint64_t v_len, const double *w, uint64_t w_len,
+    double *out, uint64_t out_len);
+ESTIMATORS_TOLD matrix_vec_sub(uint64_t n, const double *v, uint64_t v_len, const double *w, uint64_t w_len,
+    double *out, uint64_t out_len);
 /* Each number of v times s: v and out are vectors (n). */
-uint8_t matrix_vec_scale(size_t n, const double *v, size_t v_len, double s, double *out, size_t out_len);
+ESTIMATORS_TOLD matrix_vec_scale(uint64_t n, const double *v, uint64_t v_len, double s,
+    double *out, uint64_t out_len);
 /* The sum of the products of v's and w's numbers (n each), from +0 and from left to right. */
-uint8_t matrix_vec_dot(size_t n, const double *v, size_t v_len, const double *w, size_t w_len, double *out);
+ESTIMATORS_TOLD matrix_vec_dot(uint64_t n, const double *v, uint64_t v_len, const double *w, uint64_t w_len,
+    double *out);
 /* The root of v's product with itself (n). */
-uint8_t matrix_vec_norm(size_t n, const double *v, size_t v_len, double *out);
+ESTIMATORS_TOLD matrix_vec_norm(uint64_t n, const double *v, uint64_t v_len, double *out);
 /* The inverse of a: a and out are n x n. Refused with 3: a column's pivot is below EPSILON x 1,000,000. */
-uint8_t matrix_inv(size_t n, const double *a, size_t a_len, double *out, size_t out_len);
+ESTIMATORS_TOLD matrix_inv(uint64_t n, const double *a, uint64_t a_len, double *out, uint64_t out_len);
 /* The lower factor, +0 above the diagonal, from the lower triangle of a: a and out are n x n. Refused with 4: a reduced
  * diagonal at or below zero. */
-uint8_t matrix_cholesky(size_t n, const double *a, size_t a_len, double *out, size_t out_len);
+ESTIMATORS_TOLD matrix_cholesky(uint64_t n, const double *a, uint64_t a_len, double *out, uint64_t out_len);
 
 /* ---- the linear filter (kalman.rs): state n, measurement m, input i
  *
@@ -125,33 +179,36 @@ uint8_t matrix_cholesky(size_t n, const double *a, size_t a_len, double *out, si
 #define ESTIMATORS_PAIR(n) ((n) + (n) * (n))
 #define ESTIMATORS_FILTER(n, m, i) \
     (2 * (n) * (n) + (n) * (i) + (m) * (n) + (m) * (m) + ESTIMATORS_PAIR(n))
+/* Where the state and the covariance begin in a filter; the transition begins at 0. */
+#define ESTIMATORS_FILTER_STATE(n, m, i) (ESTIMATORS_FILTER(n, m, i) - ESTIMATORS_PAIR(n))
+#define ESTIMATORS_FILTER_COVARIANCE(n, m, i) (ESTIMATORS_FILTER(n, m, i) - (n) * (n))
 
 /* The filter of a model and an estimate: a, q and p0 are n x n, b is n x i, h is m x n, r is m x m, x0 is a vector
  * (n). */
-uint8_t kalman_new(size_t n, size_t m, size_t i, const double *a, size_t a_len, const double *b, size_t b_len,
-                   const double *h, size_t h_len, const double *q, size_t q_len, const double *r, size_t r_len,
-                   const double *x0, size_t x0_len, const double *p0, size_t p0_len,
-                   double *filter, size_t filter_len);
+ESTIMATORS_TOLD kalman_new(uint64_t n, uint64_t m, uint64_t i, const double *a, uint64_t a_len,
+    const double *b, uint64_t b_len, const double *h, uint64_t h_len, const double *q, uint64_t q_len,
+    const double *r, uint64_t r_len, const double *x0, uint64_t x0_len, const double *p0, uint64_t p0_len,
+    double *filter, uint64_t filter_len);
 /* Position and speed with the step dt in seconds, the position measured: n = 2, m = 1, i = 1, so 19 numbers. q is
  * process_noise times (dt^4 / 4, dt^3 / 2; dt^3 / 2, dt^2); measurement_noise is a standard deviation, r its square.
  * The state starts at 0, the covariance with 1000 on the diagonal and 0 beside it. */
-uint8_t kalman_position_velocity(double dt, double process_noise, double measurement_noise,
-                                 double *filter, size_t filter_len);
+ESTIMATORS_TOLD kalman_position_velocity(double dt, double process_noise, double measurement_noise,
+    double *filter, uint64_t filter_len);
 /* One step on, with the input u (i): the state becomes A x + B u, the covariance A P At + Q. */
-uint8_t kalman_predict(size_t n, size_t m, size_t i, double *filter, size_t filter_len,
-                       const double *u, size_t u_len);
+ESTIMATORS_TOLD kalman_predict(uint64_t n, uint64_t m, uint64_t i, double *filter, uint64_t filter_len,
+    const double *u, uint64_t u_len);
 /* Corrects the estimate by the measurement z (m); innovation (m) becomes z less H times the state before. Refused with
  * 3: inversion rejects the innovation covariance; then filter and innovation are unchanged. */
-uint8_t kalman_update(size_t n, size_t m, size_t i, double *filter, size_t filter_len,
-                      const double *z, size_t z_len, double *innovation, size_t innovation_len);
+ESTIMATORS_TOLD kalman_update(uint64_t n, uint64_t m, uint64_t i, double *filter, uint64_t filter_len,
+    const double *z, uint64_t z_len, double *innovation, uint64_t innovation_len);
 /* The state x0 (n) and the covariance p0 (n x n) in place of the filter's. */
-uint8_t kalman_reset(size_t n, size_t m, size_t i, double *filter, size_t filter_len,
-                     const double *x0, size_t x0_len, const double *p0, size_t p0_len);
+ESTIMATORS_TOLD kalman_reset(uint64_t n, uint64_t m, uint64_t i, double *filter, uint64_t filter_len,
+    const double *x0, uint64_t x0_len, const double *p0, uint64_t p0_len);
 /* Copies of the state, a vector (n), and of the covariance (n x n), into out. */
-uint8_t kalman_state(size_t n, size_t m, size_t i, const double *filter, size_t filter_len,
-                     double *out, size_t out_len);
-uint8_t kalman_covariance(size_t n, size_t m, size_t i, const double *filter, size_t filter_len,
-                          double *out, size_t out_len);
+ESTIMATORS_TOLD kalman_state(uint64_t n, uint64_t m, uint64_t i, const double *filter, uint64_t filter_len,
+    double *out, uint64_t out_len);
+ESTIMATORS_TOLD kalman_covariance(uint64_t n, uint64_t m, uint64_t i,
+    const double *filter, uint64_t filter_len, double *out, uint64_t out_len);
 
 /* ---- model mixing (imm.rs): k models of n states, m measurements
  *
@@ -164,25 +221,31 @@ uint8_t kalman_covariance(size_t n, size_t m, size_t i, const double *filter, si
 #define ESTIMATORS_MODEL(n) (2 * (n) * (n) + ESTIMATORS_PAIR(n) + 1)
 #define ESTIMATORS_BANK(n, m, k) \
     ((k) * ESTIMATORS_MODEL(n) + (k) * (k) + (m) * (n) + (m) * (m) + (k))
+/* Where a model's parts begin in a bank (models from 0), and the probabilities mu. */
+#define ESTIMATORS_BANK_STATE(n, model) ((model) * ESTIMATORS_MODEL(n) + (n) * (n))
+#define ESTIMATORS_BANK_COVARIANCE(n, model) (ESTIMATORS_BANK_STATE(n, model) + (n))
+#define ESTIMATORS_BANK_LIKELIHOOD(n, model) (((model) + 1) * ESTIMATORS_MODEL(n) - 1)
+#define ESTIMATORS_BANK_PROBABILITIES(n, m, k) (ESTIMATORS_BANK(n, m, k) - (k))
 
 /* The bank of k models, one after another, each with the probability 1 / k: models is k * ESTIMATORS_MODEL(n) numbers,
  * transition is k x k, c is m x n, r is m x m. */
-uint8_t imm_new(size_t n, size_t m, size_t k, const double *models, size_t models_len,
-                const double *transition, size_t transition_len, const double *c, size_t c_len,
-                const double *r, size_t r_len, double *bank, size_t bank_len);
+ESTIMATORS_TOLD imm_new(uint64_t n, uint64_t m, uint64_t k, const double *models, uint64_t models_len,
+    const double *transition, uint64_t transition_len, const double *c, uint64_t c_len,
+    const double *r, uint64_t r_len, double *bank, uint64_t bank_len);
 /* Every model's state and covariance mixed from those of all, by the probabilities of having come from each; mu becomes
  * the predicted probabilities. Where a predicted probability is not above EPSILON its model's weights are zero: finite
  * states mix to zero, and a covariance to zero, or to NaN where a square of the difference of states overflows. */
-uint8_t imm_mix_estimates(size_t n, size_t m, size_t k, double *bank, size_t bank_len);
+ESTIMATORS_TOLD imm_mix_estimates(uint64_t n, uint64_t m, uint64_t k, double *bank, uint64_t bank_len);
 /* mu becomes each probability times its model's likelihood, as a part of their sum; 1 / k each where the sum is below
  * EPSILON. */
-uint8_t imm_update_probabilities(size_t n, size_t m, size_t k, double *bank, size_t bank_len);
+ESTIMATORS_TOLD imm_update_probabilities(uint64_t n, uint64_t m, uint64_t k,
+    double *bank, uint64_t bank_len);
 /* The states by their probabilities, summed, into out (n). */
-uint8_t imm_fused_estimate(size_t n, size_t m, size_t k, const double *bank, size_t bank_len,
-                           double *out, size_t out_len);
+ESTIMATORS_TOLD imm_fused_estimate(uint64_t n, uint64_t m, uint64_t k,
+    const double *bank, uint64_t bank_len, double *out, uint64_t out_len);
 /* The probability of a model, from 0, into *out. Refused with 1 too: a model that is not below k. */
-uint8_t imm_model_probability(size_t n, size_t m, size_t k, const double *bank, size_t bank_len, size_t model,
-                              double *out);
+ESTIMATORS_TOLD imm_model_probability(uint64_t n, uint64_t m, uint64_t k,
+    const double *bank, uint64_t bank_len, uint64_t model, double *out);
 
 /* ---- the information filter (information_filter.rs): state n, measurement m, input i
  *
@@ -192,46 +255,49 @@ uint8_t imm_model_probability(size_t n, size_t m, size_t k, const double *bank, 
  * another length. A refusal leaves everything unchanged, but for one: see information_update.
  */
 #define ESTIMATORS_INFORMATION(n, m, i) ESTIMATORS_FILTER(n, m, i)
+/* Where xi and omega begin in a filter. */
+#define ESTIMATORS_INFORMATION_VECTOR(n, m, i) ESTIMATORS_FILTER_STATE(n, m, i)
+#define ESTIMATORS_INFORMATION_MATRIX(n, m, i) ESTIMATORS_FILTER_COVARIANCE(n, m, i)
 
 /* The filter of a model and an estimate: a, q and p0 are n x n, b is n x i, h is m x n, r is m x m, x0 is a vector (n).
  * Omega is p0 inverted, xi is omega times x0. Refused with 3: inversion rejects p0. */
-uint8_t information_new(size_t n, size_t m, size_t i, const double *a, size_t a_len, const double *b, size_t b_len,
-                        const double *h, size_t h_len, const double *q, size_t q_len, const double *r, size_t r_len,
-                        const double *x0, size_t x0_len, const double *p0, size_t p0_len,
-                        double *filter, size_t filter_len);
+ESTIMATORS_TOLD information_new(uint64_t n, uint64_t m, uint64_t i, const double *a, uint64_t a_len,
+    const double *b, uint64_t b_len, const double *h, uint64_t h_len, const double *q, uint64_t q_len,
+    const double *r, uint64_t r_len, const double *x0, uint64_t x0_len, const double *p0, uint64_t p0_len,
+    double *filter, uint64_t filter_len);
 /* The filter of a model, omega0 (n x n) and xi0 (n). */
-uint8_t information_from_information(size_t n, size_t m, size_t i, const double *a, size_t a_len,
-                                     const double *b, size_t b_len, const double *h, size_t h_len,
-                                     const double *q, size_t q_len, const double *r, size_t r_len,
-                                     const double *omega0, size_t omega0_len, const double *xi0, size_t xi0_len,
-                                     double *filter, size_t filter_len);
+ESTIMATORS_TOLD information_from_information(uint64_t n, uint64_t m, uint64_t i,
+    const double *a, uint64_t a_len, const double *b, uint64_t b_len, const double *h, uint64_t h_len,
+    const double *q, uint64_t q_len, const double *r, uint64_t r_len,
+    const double *omega0, uint64_t omega0_len, const double *xi0, uint64_t xi0_len,
+    double *filter, uint64_t filter_len);
 /* One step on, with the input u (i): the linear filter's prediction of the state and the covariance that omega and xi
  * stand for. Refused with 3: inversion rejects omega, or the predicted covariance. */
-uint8_t information_predict(size_t n, size_t m, size_t i, double *filter, size_t filter_len,
-                            const double *u, size_t u_len);
+ESTIMATORS_TOLD information_predict(uint64_t n, uint64_t m, uint64_t i, double *filter, uint64_t filter_len,
+    const double *u, uint64_t u_len);
 /* Adds the measurement z (m): Ht R^-1 H to omega, Ht R^-1 z to xi; innovation (m) becomes z less H times the state after
  * it. Refused with 3: inversion rejects r, and nothing is written; or it rejects the new omega, and then the filter KEEPS
  * the addition, and innovation is unchanged. */
-uint8_t information_update(size_t n, size_t m, size_t i, double *filter, size_t filter_len,
-                           const double *z, size_t z_len, double *innovation, size_t innovation_len);
+ESTIMATORS_TOLD information_update(uint64_t n, uint64_t m, uint64_t i, double *filter, uint64_t filter_len,
+    const double *z, uint64_t z_len, double *innovation, uint64_t innovation_len);
 /* Adds what one sensor measured, z (m), by its own h (m x n) and its own inverted noise r_inv (m x m). */
-uint8_t information_fuse_sensor(size_t n, size_t m, size_t i, double *filter, size_t filter_len,
-                                const double *h, size_t h_len, const double *r_inv, size_t r_inv_len,
-                                const double *z, size_t z_len);
+ESTIMATORS_TOLD information_fuse_sensor(uint64_t n, uint64_t m, uint64_t i,
+    double *filter, uint64_t filter_len, const double *h, uint64_t h_len,
+    const double *r_inv, uint64_t r_inv_len, const double *z, uint64_t z_len);
 /* The state x0 (n) and the covariance p0 (n x n) in place of the filter's. Refused with 3: inversion rejects p0. */
-uint8_t information_reset(size_t n, size_t m, size_t i, double *filter, size_t filter_len,
-                          const double *x0, size_t x0_len, const double *p0, size_t p0_len);
+ESTIMATORS_TOLD information_reset(uint64_t n, uint64_t m, uint64_t i, double *filter, uint64_t filter_len,
+    const double *x0, uint64_t x0_len, const double *p0, uint64_t p0_len);
 /* The state (n), omega inverted times xi, and the covariance (n x n), omega inverted, into out. Refused with 3: inversion
  * rejects omega. */
-uint8_t information_state(size_t n, size_t m, size_t i, const double *filter, size_t filter_len,
-                          double *out, size_t out_len);
-uint8_t information_covariance(size_t n, size_t m, size_t i, const double *filter, size_t filter_len,
-                               double *out, size_t out_len);
+ESTIMATORS_TOLD information_state(uint64_t n, uint64_t m, uint64_t i,
+    const double *filter, uint64_t filter_len, double *out, uint64_t out_len);
+ESTIMATORS_TOLD information_covariance(uint64_t n, uint64_t m, uint64_t i,
+    const double *filter, uint64_t filter_len, double *out, uint64_t out_len);
 /* Copies of omega (n x n) and of xi (n) into out. */
-uint8_t information_matrix(size_t n, size_t m, size_t i, const double *filter, size_t filter_len,
-                           double *out, size_t out_len);
-uint8_t information_vector(size_t n, size_t m, size_t i, const double *filter, size_t filter_len,
-                           double *out, size_t out_len);
+ESTIMATORS_TOLD information_matrix(uint64_t n, uint64_t m, uint64_t i,
+    const double *filter, uint64_t filter_len, double *out, uint64_t out_len);
+ESTIMATORS_TOLD information_vector(uint64_t n, uint64_t m, uint64_t i,
+    const double *filter, uint64_t filter_len, double *out, uint64_t out_len);
 
 /* ---- the square-root filter (sqrt_kalman.rs): state n, measurement m, input i
  *
@@ -246,40 +312,43 @@ uint8_t information_vector(size_t n, size_t m, size_t i, const double *filter, s
  * is 0.6667: do not take these variances for the errors' size.
  */
 #define ESTIMATORS_SQRT(n, m, i) (2 * (n) * (n) + (n) * (i) + (m) * (n) + (m) + ESTIMATORS_PAIR(n))
+/* Where the state and the factor begin in a filter. */
+#define ESTIMATORS_SQRT_STATE(n, m, i) (ESTIMATORS_SQRT(n, m, i) - ESTIMATORS_PAIR(n))
+#define ESTIMATORS_SQRT_FACTOR(n, m, i) (ESTIMATORS_SQRT(n, m, i) - (n) * (n))
 
 /* The filter of a model, the state x0 (n) and the covariance p0 (n x n), whose lower triangle alone is read. Refused
  * with 4: p0 has no factor; then filter is unchanged. */
-uint8_t sqrt_kalman_new(size_t n, size_t m, size_t i, const double *a, size_t a_len, const double *b, size_t b_len,
-                        const double *h, size_t h_len, const double *q, size_t q_len,
-                        const double *r_diag, size_t r_diag_len, const double *x0, size_t x0_len,
-                        const double *p0, size_t p0_len, double *filter, size_t filter_len);
+ESTIMATORS_TOLD sqrt_kalman_new(uint64_t n, uint64_t m, uint64_t i, const double *a, uint64_t a_len,
+    const double *b, uint64_t b_len, const double *h, uint64_t h_len, const double *q, uint64_t q_len,
+    const double *r_diag, uint64_t r_diag_len, const double *x0, uint64_t x0_len,
+    const double *p0, uint64_t p0_len, double *filter, uint64_t filter_len);
 /* The same with the factor s0 (n x n) itself. */
-uint8_t sqrt_kalman_from_cholesky(size_t n, size_t m, size_t i, const double *a, size_t a_len,
-                                  const double *b, size_t b_len, const double *h, size_t h_len,
-                                  const double *q, size_t q_len, const double *r_diag, size_t r_diag_len,
-                                  const double *x0, size_t x0_len, const double *s0, size_t s0_len,
-                                  double *filter, size_t filter_len);
+ESTIMATORS_TOLD sqrt_kalman_from_cholesky(uint64_t n, uint64_t m, uint64_t i,
+    const double *a, uint64_t a_len, const double *b, uint64_t b_len, const double *h, uint64_t h_len,
+    const double *q, uint64_t q_len, const double *r_diag, uint64_t r_diag_len,
+    const double *x0, uint64_t x0_len, const double *s0, uint64_t s0_len,
+    double *filter, uint64_t filter_len);
 /* One step on, with the input u (i): the state becomes A x + B u, the factor that of A P At + Q. Refused with 4: there
  * is none; then the state is the new one, and the factor the old. */
-uint8_t sqrt_kalman_predict(size_t n, size_t m, size_t i, double *filter, size_t filter_len,
-                            const double *u, size_t u_len);
+ESTIMATORS_TOLD sqrt_kalman_predict(uint64_t n, uint64_t m, uint64_t i, double *filter, uint64_t filter_len,
+    const double *u, uint64_t u_len);
 /* Corrects state and factor by the measurement z (m), one component after another, each from what the one before it
  * left; innovation (m) gets what each component less h times the state before it is. Refused with 3: a component's
  * variance is at or below zero; then the filter is as after the components before it. With 4: its downdate; then the
  * state is updated by it, and the factor's columns before the failing one are turned. Either leaves innovation unchanged. */
-uint8_t sqrt_kalman_update(size_t n, size_t m, size_t i, double *filter, size_t filter_len,
-                           const double *z, size_t z_len, double *innovation, size_t innovation_len);
+ESTIMATORS_TOLD sqrt_kalman_update(uint64_t n, uint64_t m, uint64_t i, double *filter, uint64_t filter_len,
+    const double *z, uint64_t z_len, double *innovation, uint64_t innovation_len);
 /* The state x0 (n) and the factor of p0 (n x n) in place of the filter's. Refused with 4: p0 has no factor; then filter
  * is unchanged. */
-uint8_t sqrt_kalman_reset(size_t n, size_t m, size_t i, double *filter, size_t filter_len,
-                          const double *x0, size_t x0_len, const double *p0, size_t p0_len);
+ESTIMATORS_TOLD sqrt_kalman_reset(uint64_t n, uint64_t m, uint64_t i, double *filter, uint64_t filter_len,
+    const double *x0, uint64_t x0_len, const double *p0, uint64_t p0_len);
 /* Copies of the state, a vector (n), and of the factor (n x n), and the covariance (n x n), into out. */
-uint8_t sqrt_kalman_state(size_t n, size_t m, size_t i, const double *filter, size_t filter_len,
-                          double *out, size_t out_len);
-uint8_t sqrt_kalman_cholesky_factor(size_t n, size_t m, size_t i, const double *filter, size_t filter_len,
-                                    double *out, size_t out_len);
-uint8_t sqrt_kalman_covariance(size_t n, size_t m, size_t i, const double *filter, size_t filter_len,
-                               double *out, size_t out_len);
+ESTIMATORS_TOLD sqrt_kalman_state(uint64_t n, uint64_t m, uint64_t i,
+    const double *filter, uint64_t filter_len, double *out, uint64_t out_len);
+ESTIMATORS_TOLD sqrt_kalman_cholesky_factor(uint64_t n, uint64_t m, uint64_t i,
+    const double *filter, uint64_t filter_len, double *out, uint64_t out_len);
+ESTIMATORS_TOLD sqrt_kalman_covariance(uint64_t n, uint64_t m, uint64_t i,
+    const double *filter, uint64_t filter_len, double *out, uint64_t out_len);
 
 /* ---- the smoother (rts_smoother.rs): state size n, room for slots, of which the first count are stored
  *
@@ -289,19 +358,27 @@ uint8_t sqrt_kalman_covariance(size_t n, size_t m, size_t i, const double *filte
  * to 4, room outside 1 to 64, a count above room, or a slice of another length. A refusal leaves everything unchanged.
  */
 #define ESTIMATORS_SLOT(n) (2 * ESTIMATORS_PAIR(n))
+/* Where the parts of a slot, from 0, begin in the slots, and those of a smoothed pair in the output. */
+#define ESTIMATORS_SLOT_STATE(n, slot) ((slot) * ESTIMATORS_SLOT(n))
+#define ESTIMATORS_SLOT_COVARIANCE(n, slot) (ESTIMATORS_SLOT_STATE(n, slot) + (n))
+#define ESTIMATORS_SLOT_PREDICTED_STATE(n, slot) (ESTIMATORS_SLOT_STATE(n, slot) + ESTIMATORS_PAIR(n))
+#define ESTIMATORS_SLOT_PREDICTED_COVARIANCE(n, slot) (ESTIMATORS_SLOT_PREDICTED_STATE(n, slot) + (n))
+#define ESTIMATORS_SMOOTHED_STATE(n, slot) ((slot) * ESTIMATORS_PAIR(n))
+#define ESTIMATORS_SMOOTHED_COVARIANCE(n, slot) (ESTIMATORS_SMOOTHED_STATE(n, slot) + (n))
 
 /* One slot more, after those stored, and *count one more: filtered and predicted are pairs, ESTIMATORS_PAIR(n) numbers
  * each. Refused with 5: count is room. */
-uint8_t rts_smoother_store_forward(size_t n, size_t room, size_t *count, double *slots, size_t slots_len,
-                                   const double *filtered, size_t filtered_len,
-                                   const double *predicted, size_t predicted_len);
+ESTIMATORS_TOLD rts_smoother_store_forward(uint64_t n, uint64_t room, uint64_t *count,
+    double *slots, uint64_t slots_len, const double *filtered, uint64_t filtered_len,
+    const double *predicted, uint64_t predicted_len);
 /* A copy of slot k, from 0, into out, ESTIMATORS_SLOT(n) numbers. Refused with 6: k is not below count. */
-uint8_t rts_smoother_get_state(size_t n, size_t room, size_t count, const double *slots, size_t slots_len, size_t k,
-                               double *out, size_t out_len);
+ESTIMATORS_TOLD rts_smoother_get_state(uint64_t n, uint64_t room, uint64_t count,
+    const double *slots, uint64_t slots_len, uint64_t k, double *out, uint64_t out_len);
 /* The smoothed pairs of the stored slots into output, and +0 past them; transition is n x n. Refused with 2: no slot is
  * stored; with 3: a slot before the last has a predicted covariance that inversion rejects. */
-uint8_t rts_smoother_smooth(size_t n, size_t room, size_t count, const double *slots, size_t slots_len,
-                            const double *transition, size_t transition_len, double *output, size_t output_len);
+ESTIMATORS_TOLD rts_smoother_smooth(uint64_t n, uint64_t room, uint64_t count,
+    const double *slots, uint64_t slots_len, const double *transition, uint64_t transition_len,
+    double *output, uint64_t output_len);
 
 /* ---- the depot sheet: a duty's sheet in bytes, its report in bytes
  *
@@ -316,7 +393,8 @@ uint8_t rts_smoother_smooth(size_t n, size_t room, size_t count, const double *s
 
 /* The report of a sheet at the start of out, and in *written how many bytes it has; what stands in out after it stays. Refused
  * with 1: out_len is below ESTIMATORS_REPORT. Then neither out nor *written is changed. */
-uint8_t sheet_report(const uint8_t *sheet, size_t sheet_len, uint8_t *out, size_t out_len, size_t *written);
+ESTIMATORS_TOLD sheet_report(const uint8_t *sheet, uint64_t sheet_len, uint8_t *out, uint64_t out_len,
+    uint64_t *written);
 
 #ifdef __cplusplus
 }
