@@ -6,7 +6,8 @@
 int main(int count, char **words)
 {
     uint8_t sheet[ESTIMATORS_SHEET], report[ESTIMATORS_REPORT];
-    size_t length, written = 0;
+    size_t length;
+    uint64_t written = 0;
     FILE *file;
 
     if (count != 2) {
@@ -20,7 +21,7 @@ int main(int count, char **words)
     }
     length = fread(sheet, 1, sizeof sheet, file);
     fclose(file);
-    if (sheet_report(sheet, length, report, sizeof report, &written) != 0)
+    if (sheet_report(sheet, length, report, sizeof report, &written) != ESTIMATORS_OK)
         return 1; /* not reached: the report has its room */
-    return fwrite(report, 1, written, stdout) == written ? 0 : 1;
+    return fwrite(report, 1, (size_t)written, stdout) == written ? 0 : 1;
 }

@@ -1,52 +1,76 @@
 /*
- * A bus on one road: position and speed from wheel distances, then the whole duty smoothed.
- * Built and run by examples/run.
+ * A bus from the depot gate on: where the filter aboard has it at each reading, and where the depot has it once the
+ * whole duty is smoothed. The wheel is silent for a while. Built and run by examples/run.
  */
 #include <stdio.h>
 #include <string.h>
 
 #include "estimators.h"
 
-enum { N = 2, M = 1, I = 1, ROOM = 8, FILTER = ESTIMATORS_FILTER(N, M, I), PAIR = ESTIMATORS_PAIR(N) };
+enum { N = 2, M = 1, I = 1, STEP = 10, READINGS = 14, STAGES = 4 };
+enum { FILTER = ESTIMATORS_FILTER(N, M, I), STATE = ESTIMATORS_FILTER_STATE(N, M, I), PAIR = ESTIMATORS_PAIR(N) };
+enum { SLOTS = READINGS * ESTIMATORS_SLOT(N), SMOOTHED = READINGS * PAIR };
 
-int main(void) {
-    /* Wheel distances in metres, a second apart. */
-    const double readings[] = {400.0, 405.0, 412.0, 423.0, 437.0};
-    const size_t count = sizeof readings / sizeof readings[0];
-    const double none[I] = {0.0};
-    double filter[FILTER], ahead[FILTER], innovation[M];
-    double slots[ROOM * ESTIMATORS_SLOT(N)], smoothed[ROOM * PAIR];
-    size_t stored = 0;
-    uint8_t told = kalman_position_velocity(1.0, 4.0, 32.0, filter, FILTER);
+/* Metres from the gate that the wheel says, every STEP seconds; below 0 is no reading. */
+static const double wheel[READINGS] = {38, 121, 214, 262, 301, 390, -1, -1, -1, 561, 640, 722, 753, 760};
+/* Where each fare stage ends, in metres. */
+static const int ends[STAGES] = {280, 600, 740, 1200};
 
-    for (size_t k = 0; told == 0 && k < count; k++) {
+/* The first stage that ends at or after a place, else the last; stages count from 1. */
+static int stage_of(double place)
+{
+    int stage = 1;
+    while (stage < STAGES && ends[stage - 1] < place) stage++;
+    return stage;
+}
+
+/* Filters the readings and stores a slot for each; the filtered places into filtered. */
+static uint8_t drive(double *filter, double *slots, double *filtered)
+{
+    const double none[I] = {0};
+    double ahead[FILTER], innovation[M];
+    uint64_t stored = 0;
+    uint8_t told = kalman_position_velocity(STEP, 0.25, 8.0, filter, FILTER);
+
+    for (int k = 0; told == ESTIMATORS_OK && k < READINGS; k++) {
         told = kalman_predict(N, M, I, filter, FILTER, none, I);
-        if (told == 0) told = kalman_update(N, M, I, filter, FILTER, &readings[k], M, innovation, M);
-        if (told != 0) break;
-        const double *estimate = filter + FILTER - PAIR;
-        printf("%zu: position %.3f speed %.3f innovation %.3f\n", k, estimate[0], estimate[1], innovation[0]);
-
-        /* The slot's predicted pair is for the step after it. */
-        memcpy(ahead, filter, sizeof filter);
+        if (told == ESTIMATORS_OK && wheel[k] >= 0)
+            told = kalman_update(N, M, I, filter, FILTER, &wheel[k], M, innovation, M);
+        if (told != ESTIMATORS_OK) break;
+        filtered[k] = filter[STATE];
+        /* A slot's predicted pair is for the reading after it. */
+        memcpy(ahead, filter, sizeof ahead);
         told = kalman_predict(N, M, I, ahead, FILTER, none, I);
-        if (told == 0)
-            told = rts_smoother_store_forward(N, ROOM, &stored, slots, ROOM * ESTIMATORS_SLOT(N), estimate, PAIR,
-                                              ahead + FILTER - PAIR, PAIR);
+        if (told == ESTIMATORS_OK)
+            told = rts_smoother_store_forward(N, READINGS, &stored, slots, SLOTS, filter + STATE, PAIR, ahead + STATE, PAIR);
     }
-    /* The filter's first four numbers are the transition. */
-    if (told == 0)
-        told = rts_smoother_smooth(N, ROOM, stored, slots, ROOM * ESTIMATORS_SLOT(N), filter, N * N, smoothed,
-                                   ROOM * PAIR);
-    if (told != 0) {
-        printf("refused %u\n", told);
+    return told;
+}
+
+int main(void)
+{
+    double filter[FILTER], slots[SLOTS], smoothed[SMOOTHED], filtered[READINGS];
+    uint8_t told = drive(filter, slots, filtered);
+
+    /* A filter begins with its transition. */
+    if (told == ESTIMATORS_OK)
+        told = rts_smoother_smooth(N, READINGS, READINGS, slots, SLOTS, filter, N * N, smoothed, SMOOTHED);
+    if (told != ESTIMATORS_OK) {
+        printf("refused %d\n", told);
         return told;
     }
-    for (size_t k = 0; k < stored; k++)
-        printf("%zu: smoothed position %.3f speed %.3f\n", k, smoothed[k * PAIR], smoothed[k * PAIR + 1]);
-
-    /* What is not stored is refused, and nothing is written. */
-    double slot[ESTIMATORS_SLOT(N)];
-    printf("slot %zu: refused %u\n", stored,
-           rts_smoother_get_state(N, ROOM, stored, slots, ROOM * ESTIMATORS_SLOT(N), stored, slot, ESTIMATORS_SLOT(N)));
+    printf("metres from the depot gate; stages end at %d, %d, %d and %d\n", ends[0], ends[1], ends[2], ends[3]);
+    printf(" time   wheel  filtered  smoothed  stage\n");
+    for (int k = 0; k < READINGS; k++) {
+        const double place = smoothed[ESTIMATORS_SMOOTHED_STATE(N, k)];
+        const int aboard = stage_of(filtered[k]), stage = stage_of(place);
+        printf("%3d s  ", (k + 1) * STEP);
+        if (wheel[k] >= 0) printf("%6.0f", wheel[k]); else printf("     -");
+        printf("  %8.1f  %8.1f  %5d", filtered[k], place, stage);
+        if (aboard != stage) printf("  (aboard: %d)", aboard);
+        printf("\n");
+    }
+    printf("A dash is a missing reading: the filter aboard goes on by its speed, and at 90 s is a stage too far.\n");
+    printf("The depot smooths the whole duty, so the readings after the gap put that right.\n");
     return 0;
 }

@@ -1,13 +1,20 @@
-//! A bus on one road: position and speed from wheel distances, then the whole duty smoothed.
-//! The same as track.c, from Rust. Built and run by examples/run.
+//! A bus from the depot gate on: where the filter aboard has it at each reading, and where the depot has it once the
+//! whole duty is smoothed. The same as track.c, from Rust. Built and run by examples/run.
 
 const N: usize = 2;
 const M: usize = 1;
 const I: usize = 1;
-const ROOM: usize = 8;
+const STEP: usize = 10;
+const READINGS: usize = 14;
 const PAIR: usize = N + N * N;
 const SLOT: usize = 2 * PAIR;
 const FILTER: usize = 2 * N * N + N * I + M * N + M * M + PAIR;
+const STATE: usize = FILTER - PAIR;
+
+/// Metres from the gate that the wheel says, every STEP seconds; below 0 is no reading.
+const WHEEL: [f64; READINGS] = [38., 121., 214., 262., 301., 390., -1., -1., -1., 561., 640., 722., 753., 760.];
+/// Where each fare stage ends, in metres.
+const ENDS: [f64; 4] = [280., 600., 740., 1200.];
 
 /// The C functions, as include/estimators.h declares them: a slice is a pointer and its length.
 mod entries {
@@ -23,9 +30,6 @@ mod entries {
             n: usize, room: usize, count: *mut usize, slots: *mut f64, slots_len: usize,
             filtered: *const f64, filtered_len: usize, predicted: *const f64, predicted_len: usize,
         ) -> u8;
-        pub fn rts_smoother_get_state(
-            n: usize, room: usize, count: usize, slots: *const f64, slots_len: usize, k: usize, out: *mut f64, out_len: usize,
-        ) -> u8;
         pub fn rts_smoother_smooth(
             n: usize, room: usize, count: usize, slots: *const f64, slots_len: usize,
             transition: *const f64, transition_len: usize, output: *mut f64, output_len: usize,
@@ -40,8 +44,9 @@ fn told(number: u8) -> Result<(), u8> {
 
 // Each call lends slices of their own, for as long as it runs; the library keeps no pointer.
 
-fn predict(filter: &mut [f64], input: &[f64]) -> Result<(), u8> {
-    told(unsafe { entries::kalman_predict(N, M, I, filter.as_mut_ptr(), filter.len(), input.as_ptr(), input.len()) })
+fn predict(filter: &mut [f64]) -> Result<(), u8> {
+    let none = [0.0; I];
+    told(unsafe { entries::kalman_predict(N, M, I, filter.as_mut_ptr(), filter.len(), none.as_ptr(), none.len()) })
 }
 
 fn update(filter: &mut [f64], reading: &[f64], innovation: &mut [f64]) -> Result<(), u8> {
@@ -56,7 +61,7 @@ fn update(filter: &mut [f64], reading: &[f64], innovation: &mut [f64]) -> Result
 fn store(count: &mut usize, slots: &mut [f64], filtered: &[f64], predicted: &[f64]) -> Result<(), u8> {
     told(unsafe {
         entries::rts_smoother_store_forward(
-            N, ROOM, count, slots.as_mut_ptr(), slots.len(),
+            N, READINGS, count, slots.as_mut_ptr(), slots.len(),
             filtered.as_ptr(), filtered.len(), predicted.as_ptr(), predicted.len(),
         )
     })
@@ -65,46 +70,58 @@ fn store(count: &mut usize, slots: &mut [f64], filtered: &[f64], predicted: &[f6
 fn smooth(count: usize, slots: &[f64], transition: &[f64], output: &mut [f64]) -> Result<(), u8> {
     told(unsafe {
         entries::rts_smoother_smooth(
-            N, ROOM, count, slots.as_ptr(), slots.len(),
+            N, READINGS, count, slots.as_ptr(), slots.len(),
             transition.as_ptr(), transition.len(), output.as_mut_ptr(), output.len(),
         )
     })
 }
 
-fn duty() -> Result<(), u8> {
-    // Wheel distances in metres, a second apart.
-    let readings = [400.0, 405.0, 412.0, 423.0, 437.0];
-    let (mut filter, mut slots, mut stored) = ([0.0; FILTER], [0.0; ROOM * SLOT], 0);
-    told(unsafe { entries::kalman_position_velocity(1.0, 4.0, 32.0, filter.as_mut_ptr(), FILTER) })?;
-    for (k, reading) in readings.iter().enumerate() {
-        let mut innovation = [0.0; M];
-        predict(&mut filter, &[0.0; I])?;
-        update(&mut filter, &[*reading], &mut innovation)?;
-        let estimate = &filter[FILTER - PAIR..];
-        println!("{k}: position {:.3} speed {:.3} innovation {:.3}", estimate[0], estimate[1], innovation[0]);
-        // The slot's predicted pair is for the step after it.
+/// The first stage that ends at or after a place, else the last; stages count from 1.
+fn stage_of(place: f64) -> usize {
+    1 + ENDS.iter().position(|end| *end >= place).unwrap_or(ENDS.len() - 1)
+}
+
+/// The filtered and the smoothed places.
+fn duty() -> Result<(Vec<f64>, Vec<f64>), u8> {
+    let (mut filter, mut slots, mut stored) = ([0.0; FILTER], [0.0; READINGS * SLOT], 0);
+    let mut filtered = Vec::new();
+    told(unsafe { entries::kalman_position_velocity(STEP as f64, 0.25, 8.0, filter.as_mut_ptr(), FILTER) })?;
+    for reading in WHEEL {
+        predict(&mut filter)?;
+        if reading >= 0.0 {
+            update(&mut filter, &[reading], &mut [0.0; M])?;
+        }
+        filtered.push(filter[STATE]);
+        // A slot's predicted pair is for the reading after it.
         let mut ahead = filter;
-        predict(&mut ahead, &[0.0; I])?;
-        store(&mut stored, &mut slots, estimate, &ahead[FILTER - PAIR..])?;
+        predict(&mut ahead)?;
+        store(&mut stored, &mut slots, &filter[STATE..], &ahead[STATE..])?;
     }
-    // The filter's first four numbers are the transition.
-    let mut smoothed = [0.0; ROOM * PAIR];
+    // A filter begins with its transition.
+    let mut smoothed = [0.0; READINGS * PAIR];
     smooth(stored, &slots, &filter[..N * N], &mut smoothed)?;
-    for (k, pair) in smoothed.chunks(PAIR).take(stored).enumerate() {
-        println!("{k}: smoothed position {:.3} speed {:.3}", pair[0], pair[1]);
+    Ok((filtered, smoothed.chunks(PAIR).map(|pair| pair[0]).collect()))
+}
+
+fn print(filtered: &[f64], smoothed: &[f64]) {
+    println!("metres from the depot gate; stages end at {}, {}, {} and {}", ENDS[0], ENDS[1], ENDS[2], ENDS[3]);
+    println!(" time   wheel  filtered  smoothed  stage");
+    for k in 0..READINGS {
+        let (aboard, stage) = (stage_of(filtered[k]), stage_of(smoothed[k]));
+        let wheel = if WHEEL[k] >= 0.0 { format!("{}", WHEEL[k]) } else { "-".to_string() };
+        let moved = if aboard == stage { String::new() } else { format!("  (aboard: {aboard})") };
+        println!("{:3} s  {:>6}  {:8.1}  {:8.1}  {:5}{}", (k + 1) * STEP, wheel, filtered[k], smoothed[k], stage, moved);
     }
-    // What is not stored is refused, and nothing is written.
-    let mut slot = [0.0; SLOT];
-    let number = unsafe {
-        entries::rts_smoother_get_state(N, ROOM, stored, slots.as_ptr(), slots.len(), stored, slot.as_mut_ptr(), SLOT)
-    };
-    println!("slot {stored}: refused {number}");
-    Ok(())
+    println!("A dash is a missing reading: the filter aboard goes on by its speed, and at 90 s is a stage too far.");
+    println!("The depot smooths the whole duty, so the readings after the gap put that right.");
 }
 
 fn main() -> std::process::ExitCode {
     match duty() {
-        Ok(()) => std::process::ExitCode::SUCCESS,
+        Ok((filtered, smoothed)) => {
+            print(&filtered, &smoothed);
+            std::process::ExitCode::SUCCESS
+        }
         Err(number) => {
             println!("refused {number}");
             number.into()
