@@ -62,7 +62,7 @@ sum_of() {
   {
     rt version 2> /dev/null || cat "$root/kit-version"
     (cd "$root" && cat crates.txt && for name in $(crates_of "$1"); do
-      find "crates/$name/src" "crates/$name/specs" "crates/$name/proofs" -type f 2> /dev/null
+      for part in src specs proofs; do [ ! -d "crates/$name/$part" ] || find "crates/$name/$part" -type f; done
     done | LC_ALL=C sort | xargs -d '\n' sha256sum)
   } | sha256sum | cut -d ' ' -f 1
 }
