@@ -1,7 +1,9 @@
 //! bench: how long the Rust and the port take for the same work, in one table. Each figure is the best of several runs,
 //! and before the first the answers are compared bit for bit. The Rust is called as the port is: through functions that
 //! are not inlined, and a loop of steps as one call. The port is the library by value, and the C interface over slices.
+//! Eigen stands beside them where it is installed, its times only.
 
+mod eigen;
 #[path = "../port_side/entries.rs"]
 mod entries;
 mod imm;
@@ -45,21 +47,32 @@ fn times(work: &mut dyn FnMut()) -> u64 {
     times * 4
 }
 
-/// The best time of each side in nanoseconds, all taking turns.
-fn best(sides: &mut [Work]) -> Vec<f64> {
+/// A side's times: the best, and how far the middle one lies above it, as a part of it.
+#[derive(Clone, Copy)]
+struct Times {
+    best: f64,
+    spread: f64,
+}
+
+/// The times of each side in nanoseconds, all taking turns.
+fn timed(sides: &mut [Work]) -> Vec<Times> {
     let counts: Vec<u64> = sides.iter_mut().map(|work| times(*work)).collect();
-    let mut best = vec![f64::INFINITY; sides.len()];
+    let mut all = vec![Vec::new(); sides.len()];
     for _ in 0..RUNS {
         for (side, work) in sides.iter_mut().enumerate() {
-            let spent = time(*work, counts[side]).as_secs_f64() * 1e9 / counts[side] as f64;
-            best[side] = best[side].min(spent);
+            all[side].push(time(*work, counts[side]).as_secs_f64() * 1e9 / counts[side] as f64);
         }
     }
-    best
+    let times = |mut runs: Vec<f64>| {
+        runs.sort_by(f64::total_cmp);
+        Times { best: runs[0], spread: runs[RUNS / 2] / runs[0] - 1.0 }
+    };
+    all.into_iter().map(times).collect()
 }
 
 fn heading() {
-    println!("{:<30}{:>10}{:>10}{:>8}{:>10}{:>8}", "nanoseconds", "Rust", "library", "ratio", "C", "ratio");
+    let names = format!("{:<30}{:>10}{:>10}{:>8}{:>10}{:>8}", "nanoseconds", "Rust", "library", "ratio", "C", "ratio");
+    println!("{names}{}{:>8}", if eigen::THERE { "     Eigen" } else { "" }, "spread");
 }
 
 /// A time and its ratio to the Rust's, or nothing where there is none.
@@ -72,15 +85,44 @@ fn beside(time: Option<f64>, rust: f64) -> String {
 
 /// One row, `per` pieces of work a call: the Rust, and the library by value and the C interface where they do the same.
 fn row<'a>(name: &str, per: f64, rust: Work<'a>, library: Option<Work<'a>>, c: Option<Work<'a>>) {
-    let (with_library, with_c) = (library.is_some(), c.is_some());
+    row_with(name, per, rust, library, c, None)
+}
+
+/// A row with Eigen's time as well. The spread is the widest of the sides'.
+fn row_with<'a>(
+    name: &str,
+    per: f64,
+    rust: Work<'a>,
+    library: Option<Work<'a>>,
+    c: Option<Work<'a>>,
+    eigen: Option<Work<'a>>,
+) {
+    let (with_library, with_c, with_eigen) = (library.is_some(), c.is_some(), eigen.is_some());
     let mut sides = vec![rust];
     sides.extend(library);
     sides.extend(c);
-    let mut times = best(&mut sides).into_iter().map(|time| time / per);
+    sides.extend(eigen);
+    let all = timed(&mut sides);
+    let spread = all.iter().map(|times| times.spread).fold(0.0, f64::max);
+    let mut times = all.into_iter().map(|times| times.best / per);
     let rust = times.next().unwrap();
     let library = beside(with_library.then(|| times.next().unwrap()), rust);
     let c = beside(with_c.then(|| times.next().unwrap()), rust);
-    println!("{}", format!("{name:<30}{rust:>10.1}{library}{c}").trim_end());
+    let eigen = match with_eigen.then(|| times.next().unwrap()) {
+        Some(time) => format!("{time:>10.1}"),
+        None => " ".repeat(if eigen::THERE { 10 } else { 0 }),
+    };
+    println!("{name:<30}{rust:>10.1}{library}{c}{eigen}{:>7.0}%", spread * 100.0);
+}
+
+/// Other work on the machine makes every time longer, and the rows uneven.
+fn warn_if_loaded() {
+    let cores = std::thread::available_parallelism().map_or(1, usize::from) as f64;
+    let load = std::fs::read_to_string("/proc/loadavg").ok();
+    let load = load.and_then(|text| text.split(' ').next()?.parse::<f64>().ok()).unwrap_or(0.0);
+    if load > cores / 2.0 {
+        eprintln!("warning: the machine is at work (load {load} on {cores} cores): take these times as upper bounds, and run again when it is quiet");
+    }
 }
 
 /// What is timed gives the Rust's numbers.
@@ -102,7 +144,7 @@ fn flat<const R: usize, const C: usize>(matrix: &Matrix<f64, R, C>) -> Vec<f64> 
 fn matrices<const N: usize>() {
     let a = definite::<N>();
     let (cells, rows) = (flat(&a), library::rows(&a));
-    let (mut made, mut out) = ([[0.0; 4]; 4], vec![0.0; N * N]);
+    let (mut made, mut out, mut peer) = ([[0.0; 4]; 4], vec![0.0; N * N], vec![0.0; N * N]);
 
     let name = format!("matmul {N} x {N}");
     library::matmul(N, &rows, &rows, &mut made);
@@ -110,12 +152,13 @@ fn matrices<const N: usize>() {
     let answer = flat(&rust::matmul(&a, &a));
     agree(&name, &answer, &library::used(N, &made));
     agree(&name, &answer, &out);
-    row(
+    row_with(
         &name,
         1.0,
         &mut || keep(&rust::matmul(black_box(&a), black_box(&a))),
         Some(&mut || library::matmul(N, black_box(&rows), black_box(&rows), black_box(&mut made))),
         Some(&mut || port::matmul(N, black_box(&cells), black_box(&cells), black_box(&mut out))),
+        eigen::THERE.then_some(&mut || eigen::matmul(N, black_box(&cells), black_box(&cells), black_box(&mut peer))),
     );
 
     let name = format!("inv {N} x {N}");
@@ -124,12 +167,13 @@ fn matrices<const N: usize>() {
     let answer = flat(&rust::inv(&a).expect("an inverse"));
     agree(&name, &answer, &library::used(N, &made));
     agree(&name, &answer, &out);
-    row(
+    row_with(
         &name,
         1.0,
         &mut || keep(&rust::inv(black_box(&a))),
         Some(&mut || library::inv(N, black_box(&rows), black_box(&mut made))),
         Some(&mut || port::inv(N, black_box(&cells), black_box(&mut out))),
+        eigen::THERE.then_some(&mut || eigen::inv(N, black_box(&cells), black_box(&mut peer))),
     );
 
     let name = format!("cholesky {N} x {N}");
@@ -138,12 +182,13 @@ fn matrices<const N: usize>() {
     let answer = flat(&rust::cholesky(&a).expect("a factor"));
     agree(&name, &answer, &library::used(N, &made));
     agree(&name, &answer, &out);
-    row(
+    row_with(
         &name,
         1.0,
         &mut || keep(&rust::cholesky(black_box(&a))),
         Some(&mut || library::cholesky(N, black_box(&rows), black_box(&mut made))),
         Some(&mut || port::cholesky(N, black_box(&cells), black_box(&mut out))),
+        eigen::THERE.then_some(&mut || eigen::cholesky(N, black_box(&cells), black_box(&mut peer))),
     );
 }
 
@@ -152,18 +197,20 @@ fn filter<const N: usize, const M: usize, const I: usize>() {
     let name = format!("predict + update ({N}, {M}, {I})");
     let mut rust = rust::filter::<N, M, I>(definite(), definite());
     let mut port = port::Filter::new(&rust);
+    let mut peer = port.cells().to_vec();
     let (start, steps) = (rust.clone(), library::Steps::new(&rust));
     let (u, z) = ([0.5; I], [1.0; M]);
     agree(&name, &rust::steps(&start, &u, &z, library::STEPS), &steps.run(&u, &z)[..N]);
     rust::predict_update(&mut rust, &u, &z);
     port.predict_update(&u, &z);
     agree(&name, &[&rust.state()[..], &flat(rust.covariance())].concat(), port.estimate());
-    row(
+    row_with(
         &name,
         1.0,
         &mut || rust::predict_update(black_box(&mut rust), black_box(&u), black_box(&z)),
         None,
         Some(&mut || port.predict_update(black_box(&u), black_box(&z))),
+        eigen::THERE.then_some(&mut || eigen::step(N, black_box(&mut peer), black_box(&u), black_box(&z))),
     );
     row(
         &format!("  a step of {} in a loop", library::STEPS),
@@ -211,6 +258,7 @@ fn sheet() {
 }
 
 fn main() {
+    warn_if_loaded();
     heading();
     agree("root", &[rust::root(2.3)], &[port::root(2.3)]);
     row(
@@ -238,4 +286,6 @@ fn main() {
         smooth::<2>("growth:", count);
     }
     sheet();
+    println!("times are the best of {RUNS} runs; spread: how far the middle run lies above the best, at most, in the row");
+    warn_if_loaded();
 }

@@ -57,6 +57,11 @@ impl Filter {
         Filter { sizes: [N, M, I], cells, innovation: vec![0.0; M] }
     }
 
+    /// The whole filter.
+    pub fn cells(&self) -> &[f64] {
+        &self.cells
+    }
+
     /// The state, then the covariance.
     pub fn estimate(&self) -> &[f64] {
         let n = self.sizes[0];

@@ -5,7 +5,8 @@ use oxictl::estimator::rts_smoother::{FilteredState, RtsSmoother};
 
 const STEP: usize = 10;
 const READINGS: usize = 14;
-const WHEEL: [f64; READINGS] = [38., 121., 214., 262., 301., 390., -1., -1., -1., 561., 640., 722., 753., 760.];
+const WHEEL: [f64; READINGS] =
+    [38., 121., 214., 262., 301., 390., -1., -1., -1., 561., 640., 722., 753., 760.];
 const ENDS: [f64; 4] = [280., 600., 740., 1200.];
 
 fn stage_of(place: f64) -> usize {
@@ -22,12 +23,16 @@ fn main() {
         }
         let mut ahead = filter.clone();
         ahead.predict(&[0.0]);
-        let slot = FilteredState::new(*filter.state(), *filter.covariance(), *ahead.state(), *ahead.covariance());
+        let slot =
+            FilteredState::new(*filter.state(), *filter.covariance(), *ahead.state(), *ahead.covariance());
         slots.store_forward(slot).expect("room");
     }
     let smoothed = slots.smooth(&filter.a).expect("a smoothed duty");
 
-    println!("metres from the depot gate; stages end at {}, {}, {} and {}", ENDS[0], ENDS[1], ENDS[2], ENDS[3]);
+    println!(
+        "metres from the depot gate; stages end at {}, {}, {} and {}",
+        ENDS[0], ENDS[1], ENDS[2], ENDS[3]
+    );
     println!(" time   wheel  filtered  smoothed  stage");
     for (k, reading) in WHEEL.iter().enumerate() {
         let filtered = slots.get_state(k).expect("a slot").x[0];
@@ -35,7 +40,15 @@ fn main() {
         let (aboard, stage) = (stage_of(filtered), stage_of(place));
         let wheel = if *reading >= 0.0 { format!("{reading}") } else { "-".to_string() };
         let moved = if aboard == stage { String::new() } else { format!("  (aboard: {aboard})") };
-        println!("{:3} s  {:>6}  {:8.1}  {:8.1}  {:5}{}", (k + 1) * STEP, wheel, filtered, place, stage, moved);
+        println!(
+            "{:3} s  {:>6}  {:8.1}  {:8.1}  {:5}{}",
+            (k + 1) * STEP,
+            wheel,
+            filtered,
+            place,
+            stage,
+            moved
+        );
     }
     println!("A dash is a missing reading: the filter aboard goes on by its speed, and at 90 s is a stage too far.");
     println!("The depot smooths the whole duty, so the readings after the gap put that right.");
