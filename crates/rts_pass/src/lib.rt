@@ -1,5 +1,5 @@
 // The pass of Rauch, Tung and Striebel over slots in a buffer that the caller lends, with the operations and the order of
-// src/estimator/rts_smoother.rs. How slots lie in it: crates/duty; two states are smoothed by their numbers: crates/rts_road.
+// src/estimator/rts_smoother.rs. How slots lie in it: crates/duty; two states go by their numbers (two.rt).
 // Rests on the definition in crates/smoothing.
 ghost use mathlib.Core.Path.{_≡_};
 ghost use Prim.Native.Nat.{_+_, _*_, _≤_};
@@ -14,10 +14,11 @@ ghost use Rattle.rts_pass.specs.Call.{duty, run};
 ghost use Rattle.rts_pass.specs.Pass.{smoothOf, smoothRows};
 use answer::Status;
 use duty::is_smoothable;
-use rts_road::smooth_slots_two;
 use sizes::Size;
 use sizes::number;
 use sizes::size_of;
+
+mod two;
 
 // ---- a slot of any size, given by the number k at which it begins
 
@@ -77,7 +78,7 @@ fn smooth_slots<'a>(
 {
     let size = number(n);
     if size == 2 {
-        return smooth_slots_two(slots, stored, f, out);
+        return two::smooth_slots_two(slots, stored, f, out);
     }
     let pair = size + size * size;
     let stride = 2 * pair;

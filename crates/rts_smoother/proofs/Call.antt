@@ -27,7 +27,7 @@ use Rattle.rts_smoother.specs.declared.RtsSmoother.{RtsSmoother}
 use Rattle.rts_smoother.specs.Record.{slotOf, storable, storeForward}
 use Rattle.rts_smoother.specs.Call.{MethodCall, duty, run, StoredDuty}
 use Rattle.rts_smoother.proofs.Records.{storable-of}
-use Rattle.rts_smoother.proofs.Stores.{Slotted, stored-slots}
+use Rattle.duty.proofs.Stores.{Slotted, stored-slots}
 
 method-is-smooth : (c : MethodCall) → run c ≡ smooth (duty c)
 method-is-smooth c =

@@ -1,11 +1,11 @@
--- `put_two` meets its contract: the numbers are set one after another.
+-- `two::put_two` meets its contract: the numbers are set one after another.
 use mathlib.Core.List.{[], _∷_}
 use native.Mathlib.Omega.{arith}
 use lib.ListN.{length-set}
 use Rattle.layout.proofs.Places.{set-placed, placed-next}
 use Rattle.duty.specs.Buffer.{pairNumbers}
-use Rattle.rts_road.proofs.put_two.Statement.{statement}
-use Rattle.rts_road.proofs.put_two.Tie as tie
+use Rattle.rts_pass.proofs.two.put_two.Statement.{statement}
+use Rattle.rts_pass.proofs.two.put_two.Tie as tie
 
 returns : tie.Need-returns
 unfolding pairNumbers

@@ -1,11 +1,11 @@
--- `two_at` meets its contract: the numbers one after another.
+-- `two::two_at` meets its contract: the numbers one after another.
 use mathlib.Core.Path.{_≡_}
 use mathlib.Core.List.{[], _∷_}
 use Prim.Native.Nat.{_+_, _*_}
 use native.Mathlib.Omega.{arith}
 use Rattle.algebra.specs.Matrix.{at}
-use Rattle.rts_road.proofs.two_at.Statement.{statement}
-use Rattle.rts_road.proofs.two_at.Tie as tie
+use Rattle.rts_pass.proofs.two.two_at.Statement.{statement}
+use Rattle.rts_pass.proofs.two.two_at.Tie as tie
 
 returns : tie.Need-returns
 returns c =

@@ -1,4 +1,4 @@
--- `pair_at` meets its contract: the state, then the covariance.
+-- `two::pair_at` meets its contract: the state, then the covariance.
 use mathlib.Core.Path.{_≡_}
 use mathlib.Core.List.{[], _∷_}
 use Prim.Native.Nat.{_+_}
@@ -6,8 +6,8 @@ use native.Mathlib.Omega.{arith}
 use Rattle.algebra.specs.Matrix.{at}
 use Rattle.filtering.specs.Filter.{estimate}
 use Rattle.duty.specs.Buffer.{pairAt}
-use Rattle.rts_road.proofs.pair_at.Statement.{statement}
-use Rattle.rts_road.proofs.pair_at.Tie as tie
+use Rattle.rts_pass.proofs.two.pair_at.Statement.{statement}
+use Rattle.rts_pass.proofs.two.pair_at.Tie as tie
 
 returns : tie.Need-returns
 unfolding pairAt

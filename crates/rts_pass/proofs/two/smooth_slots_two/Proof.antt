@@ -1,4 +1,4 @@
--- `smooth_slots_two` meets its contract: the loop has come back to slot k, and e is its smoothed pair.
+-- `two::smooth_slots_two` meets its contract: the loop has come back to slot k, and e is its smoothed pair.
 use mathlib.Core.Path.{_≡_, refl, sym, ap, _∙_}
 use Prim.Native.Nat.{_-_}
 use native.Mathlib.Omega.{arith}
@@ -7,10 +7,10 @@ use Rattle.answer.specs.Answer.{answered}
 use Rattle.algebra.specs.Array.{cut, used}
 use Rattle.road.specs.Road.{estimateOf}
 use Rattle.duty.specs.Buffer.{slotFrom, slotAt}
 use Rattle.rts_road.specs.Slot.{slotOfTwo}
 use Rattle.duty.proofs.Passes.{left-done, left-refused, Going, going-start, going-room, going-more, going-stop, going-done}
-use Rattle.rts_road.proofs.smooth_slots_two.Statement.{statement}
-use Rattle.rts_road.proofs.smooth_slots_two.Tie as tie
+use Rattle.rts_pass.proofs.two.smooth_slots_two.Statement.{statement}
+use Rattle.rts_pass.proofs.two.smooth_slots_two.Tie as tie
 
 abbrev Inv-loop : tie.InvT-loop
 Inv-loop slots stored f out₀ t k₀ e₀ out k e = Going 2 (used 2 2 f) slots stored out₀ k (estimateOf e) out
