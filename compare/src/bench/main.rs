@@ -10,6 +10,7 @@ mod imm;
 mod information;
 mod library;
 mod port;
+mod root;
 mod rust;
 mod sqrt_kalman;
 
@@ -260,14 +261,7 @@ fn sheet() {
 fn main() {
     warn_if_loaded();
     heading();
-    agree("root", &[rust::root(2.3)], &[port::root(2.3)]);
-    row(
-        "root (the Rust: hardware's)",
-        1.0,
-        &mut || keep(&rust::root(black_box(2.3))),
-        None,
-        Some(&mut || keep(&port::root(black_box(2.3)))),
-    );
+    root::rows();
     matrices::<1>();
     matrices::<2>();
     matrices::<3>();

@@ -13,7 +13,7 @@ use lib.Ieee.Exact.{HasValue, odd-sign}
 use lib.Ieee.Positive.{positive}
 use Rattle.root.specs.Weights.{hidden, past53, infinity, signBit}
 use Rattle.root.specs.Root.{asWhole}
-use Rattle.root.proofs.Patterns.{ofBits-is, at-normal, at-subnormal, at-top, asWhole-odd, no-nan}
+use Rattle.root.proofs.Patterns.{ofBits-is, at-normal, at-subnormal, at-top, asWhole-odd, plain-bits}
 
 -- the number of units that a pattern stands for
 abbrev pub val : ℕ → ℕ
@@ -87,7 +87,7 @@ bits-range x h p = positive-range (toBits binary64 x) (subst (λ (y : Float). T 
 
 -- reading a pattern that is no NaN's, and writing it, gives it back
 pub bits-back : (b : ℕ) → b ≤ infinity → toBits binary64 (ofBits binary64 b) ≡ b
-bits-back b h = toBits-ofBits binary64 b (omega arith) (subst (λ (t : Bool). T (not t)) (sym (sym (nanBits-is binary64 b) ∙ no-nan b h)) tt)
+bits-back b h = toBits-ofBits binary64 b (omega arith) (subst (λ (t : Bool). T (not t)) (nanBits-is binary64 b) (plain-bits b (omega arith)))
 
 -- ---- a larger pattern is a larger number
 val-step : (b : ℕ) → b + 1 < infinity → val b ≤ val (b + 1)

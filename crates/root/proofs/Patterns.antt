@@ -1,19 +1,19 @@
 -- The bit patterns of binary64, and the root of each kind of pattern. Assumes nothing.
-use mathlib.Core.Path.{_≡_, refl, sym, ap, _∙_}
+use mathlib.Core.Path.{_≡_, refl, sym, ap, _∙_, subst}
 use Prim.Native.Nat.{ℕ, zero, suc, _+_, _-_, _*_, _/_, _%_, _^_, _≤_, _<_}
 use native.Mathlib.Nat.{not-le-of-lt, mod-eq-of-lt, mul-div-cancel, mul-pos}
 use native.Mathlib.Omega.{arith}
 use mathlib.Core.Bool.{Bool, true, false, not, cond, true≢false}
 use lib.Dec.{T, leb, eqb, leb→le, eqb→eq, not-T}
 use lib.Pow.{pow-pos}
-use lib.Ieee.{Float, nan, inf, fin, binary64, down, odd, ofFields, ofBits, nanBits, ne, isNan}
+use lib.Ieee.{Float, nan, inf, fin, binary64, down, odd, ofFields, ofBits, toBits, fits, nanBits, ne, isNan}
 use lib.Ieee.Compare.{nan-differs}
-use lib.Ieee.Bits.{is-false, cond-no, nanBits-above}
+use lib.Ieee.Bits.{is-false, cond-no, ofBits-toBits, nanBits-is, nanBits-above}
 use lib.Ieee.Digits.{Equals, odd-val}
 use lib.Ieee.Exact.{odd-sign}
 use lib.Ieee.Fits.{down-pos}
 use lib.Ieee.Positive.{positive, positive-of-value}
-use borrow.Author.Tests.{le-ltb}
+use borrow.Author.Tests.{le-ltb, ltb-false}
 use Rattle.root.specs.Weights.{hidden, past53, infinity, signBit}
 use Rattle.root.specs.Root.{root, rootOf, asWhole}
 
@@ -50,9 +50,6 @@ at-normal q k l h g =
   where
     lead : (q : ℕ) → hidden ≤ q → hidden + (q - hidden) ≡ q
     lead q l = omega arith
-
-pub no-nan : (b : ℕ) → b ≤ infinity → nanBits binary64 b ≡ false
-no-nan b h = nanBits-above binary64 b ∙ le-ltb infinity (b % signBit) (omega arith)
 
 -- ---- a subnormal value
 field-zero : (t : ℕ) → ofFields binary64 false 0 t ≡ odd 53 false t 0 1074
@@ -100,3 +97,13 @@ unfolding isNan
 itself nan h = absurd (true≢false (sym nan-differs ∙ h))
 itself (inf s) h = tt
 itself (fin s m e) h = tt
+
+-- its bits without the sign are at most those of an infinity
+pub up-to : (x : Float) → T (fits binary64 x) → ne x x ≡ false → toBits binary64 x % signBit ≤ infinity
+up-to x h n =
+    ltb-false infinity (toBits binary64 x % signBit)
+    (sym (nanBits-above binary64 (toBits binary64 x)) ∙ nanBits-is binary64 (toBits binary64 x) ∙ ap isNan (ofBits-toBits binary64 x h) ∙ is-false (isNan x) (itself x n))
+
+-- and bits that are not above these are no NaN's
+pub plain-bits : (b : ℕ) → b % signBit ≤ infinity → T (not (nanBits binary64 b))
+plain-bits b h = subst (λ (t : Bool). T (not t)) (sym (nanBits-above binary64 b ∙ le-ltb infinity (b % signBit) h)) tt

@@ -4,7 +4,6 @@ use Prim.Native.Nat.{ℕ, zero, suc, _+_, _-_, _*_, _/_, _%_, _^_, _≤_, _<_}
 use native.Mathlib.Nat.{mul-assoc, mul-one, le-of-lt, lt-irrefl, mul-pos, zero-mul, zero-add}
 use native.Mathlib.Omega.{arith}
 use mathlib.Core.Bool.{Bool, true, false, cond, false≢true}
-use mathlib.Core.Logic.{_⊎_, inl, inr}
 use lib.Dec.{leb, eqb, le→leb}
 use lib.Pow.{pow-add, pow-pos}
 use lib.Ieee.{Float, nan, inf, fin, binary64, up, odd, ofFields, ofBits}
@@ -56,20 +55,24 @@ subnormal-root b m e p h q =
     ∙ mul-assoc m (2 ^ e) (2 ^ 52)
     ∙ ap (λ (x : ℕ). m * x) (sym (pow-add 2 e 52)))
 
-abbrev Same : ℕ → Type 0
+-- a pattern whose number is its own root: the zeros and +infinity
+abbrev pub Same : ℕ → Type 0
 Same b = root (ofBits binary64 b) ≡ ofBits binary64 b
 
-plus-zero : Same 0
+pub plus-zero : Same 0
 unfolding root ofBits
 plus-zero = refl
 
-minus-zero : Same signBit
+pub minus-zero : Same signBit
 unfolding root ofBits
 minus-zero = refl
 
-infinite : Same infinity
+pub infinite : Same infinity
 unfolding root ofBits
 infinite = refl
+
+pub is-same : {a b : ℕ} → Same a → b ≡ a → Same b
+is-same h e = subst Same (sym e) h
 
 -- a value below zero
 below-zero : (x : Float) (a c : ℕ) → HasValue x true a c → 0 < a → root x ≡ nan
@@ -103,21 +106,6 @@ fields-nan (suc x) t h =
   where
     some : (t : ℕ) → 0 < hidden + t
     some t = omega arith
-
--- the zeros
-pub zero-root : (b : ℕ) → b < patterns → b % signBit ≡ 0 → root (ofBits binary64 b) ≡ ofBits binary64 b
-zero-root b h z = elim (either b h z) [ inl e ↦ subst Same (sym e) plus-zero | inr e ↦ subst Same (sym e) minus-zero ]
-  where
-    either : (b : ℕ) → b < patterns → b % signBit ≡ 0 → (b ≡ 0) ⊎ (b ≡ signBit)
-    either b h z = go (b / signBit) refl
-      where
-        go : (n : ℕ) → b / signBit ≡ n → (b ≡ 0) ⊎ (b ≡ signBit)
-        go zero e = inl (omega arith)
-        go (suc n) e = inr (omega arith)
-
--- +infinity
-pub infinity-root : (b : ℕ) → b ≡ infinity → root (ofBits binary64 b) ≡ ofBits binary64 b
-infinity-root b e = subst Same (sym e) infinite
 
 -- below zero
 pub negative-root : (b : ℕ) → signBit < b → b < patterns → root (ofBits binary64 b) ≡ nan

@@ -110,3 +110,10 @@ module _ (m e : ℕ) (lo : hidden ≤ m) (hi : m < past53) (s : ℕ) (is : s ≡
   pub code-root : odd 53 false ((s + 1) / 2) (e / 2) 1074 ≡ rootOf (m * 2 ^ (e + 52))
   unfolding nearestRoot
   code-root = ap (λ (x : ℕ). odd 53 false ((x + 1) / 2) (e / 2) 1074) is-lead ∙ sym (rootOf-at m e lo hi)
+
+-- and as it tests a guess: q is nearest the root
+pub guess-root : (m e q : ℕ) → hidden ≤ m → m < past53 → nearestRoot (m * (1 + e % 2) * hidden) ≡ q → odd 53 false q (e / 2) 1074 ≡ rootOf (m * 2 ^ (e + 52))
+guess-root m e q lo hi is = ap (λ (x : ℕ). odd 53 false x (e / 2) 1074) (sym is ∙ ap nearestRoot (sym (quarter (lead m e) (m * (1 + e % 2)) (lead-code m e lo hi)))) ∙ sym (rootOf-at m e lo hi)
+  where
+    quarter : (a n : ℕ) → a * 4 ≡ n * past54 → a ≡ n * hidden
+    quarter a n h = omega arith

@@ -1,12 +1,12 @@
 -- The whole square root: `isqrt` is the largest number whose square is at most a, there is one such number, and twice the nearest root is off by at most one. Assumes nothing.
 use mathlib.Core.Path.{_≡_, refl, subst}
 use Prim.Native.Nat.{ℕ, zero, suc, _+_, _-_, _*_, _/_, _%_, _^_, _≤_, _<_}
-use native.Mathlib.Nat.{lt-of-lt-of-le, lt-of-le-of-lt, lt-of-not-le, lt-irrefl, le-antisymm, le-of-suc-le-suc, mul-le-mul, pow-suc, div-lt-iff-lt-mul, zero-lt-suc}
+use native.Mathlib.Nat.{lt-of-lt-of-le, lt-of-le-of-lt, lt-of-not-le, lt-irrefl, le-of-lt, le-antisymm, le-of-suc-le-suc, mul-le-mul, pow-suc, div-lt-iff-lt-mul, zero-lt-suc}
 use mathlib.Core.Logic.{_⊎_, inl, inr}
 use native.Mathlib.Omega.{arith}
 use mathlib.Core.Bool.{Bool, true, false, not, cond}
 use lib.Dec.{T, ltb, ltb→lt, nltb→le}
-use Rattle.root.specs.Root.{isqrt}
+use Rattle.root.specs.Root.{isqrt, nearestRoot}
 
 abbrev pub IsRoot : ℕ → ℕ → Type 0
 IsRoot a s = (s * s ≤ a) × (a < (s + 1) * (s + 1))
@@ -66,3 +66,24 @@ near-high a s q r e = elim (parity s q e) [ inl h ↦ at-even (subst (λ (x : �
 
     at-odd : a * 4 < (q + q) * (q + q) → a * 4 < (q + (q + 1)) * (q + (q + 1))
     at-odd h = omega arith
+
+-- and the other way: a q with -q < a - q * q ≤ q is the nearest root
+pub nearest-of : (a q : ℕ) → a < 4 ^ 53 → q * q < a + q → a ≤ q * q + q → nearestRoot a ≡ q
+unfolding nearestRoot
+nearest-of a zero h lo hi = absurd (none a lo hi)
+  where
+    none : (a : ℕ) → 0 * 0 < a + 0 → a ≤ 0 * 0 + 0 → ⊥
+    none a lo hi = omega arith
+nearest-of a (suc v) h lo hi =
+    let s = isqrt 54 (a * 4) in
+    let r = isqrt-is 54 (a * 4) (omega arith) in
+    half s v (square-le (v + suc v) s (lt-of-lt-of-le (below a v lo) (le-of-lt (r .1)))) (square-le s (suc v + suc v) (lt-of-le-of-lt (r .0) (above a v hi)))
+  where
+    below : (a v : ℕ) → suc v * suc v < a + suc v → (v + suc v) * (v + suc v) < a * 4
+    below a v lo = omega arith
+
+    above : (a v : ℕ) → a ≤ suc v * suc v + suc v → a * 4 < (suc v + suc v + 1) * (suc v + suc v + 1)
+    above a v hi = omega arith
+
+    half : (s v : ℕ) → v + suc v ≤ s → s ≤ suc v + suc v → (s + 1) / 2 ≡ suc v
+    half s v lo hi = omega arith

@@ -2,4 +2,3 @@ pub mod Weights
 pub mod Root
 pub mod Nearest
 pub mod Part
-pub mod Rest

@@ -19,9 +19,6 @@ signBit = 2 ^ 63
 abbrev pub patterns : ℕ
 patterns = 2 ^ 64
 
--- the patterns of +infinity and of 4
+-- the pattern of +infinity
 abbrev pub infinity : ℕ
 infinity = 0x7ff0_0000_0000_0000
-
-abbrev pub bitsOfFour : ℕ
-bitsOfFour = 0x4010_0000_0000_0000

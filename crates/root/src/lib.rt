@@ -1,14 +1,13 @@
-// The correctly rounded square root of an f64. Integers decide every answer; floats serve for a first
-// guess, of which nothing is assumed.
+// The correctly rounded square root of an f64. A guess in floats is taken where integers show that it is the root; of the
+// guess nothing is assumed, and elsewhere the root is found digit by digit.
 ghost use mathlib.Core.Path.{_≡_};
-ghost use mathlib.Core.Bool.{false};
+ghost use mathlib.Core.Bool.{true, false};
 ghost use Prim.Native.Nat.{_+_, _*_, _^_, _≤_, _<_};
 ghost use lib.Ieee.{binary64, ofBits, odd};
-ghost use Rattle.root.specs.Weights.{hidden, past53, past54, infinity, bitsOfFour};
-ghost use Rattle.root.specs.Root.{root, rootOf, isqrt};
+ghost use Rattle.root.specs.Weights.{hidden, past53, past54, infinity};
+ghost use Rattle.root.specs.Root.{root, rootOf, isqrt, nearestRoot};
 ghost use Rattle.root.specs.Nearest.{CorrectlyRounded};
 ghost use Rattle.root.specs.Part.{Ready, Step};
-ghost use Rattle.root.specs.Rest.{Leaves};
 
 // The leading digit of a significand, which a pattern does not hold.
 const HIDDEN: u64 = 0x10_0000_0000_0000;
@@ -66,96 +65,7 @@ fn digits(m: u64) -> u64
     p.root
 }
 
-// ---- the same from a guess
-
-// A guess at the 53 digits of the root of the number from 1 to 4 whose bits are `bits`: 1 / √x from x's
-// bits, three steps of Newton's method, and one for the root. `whole_root` is right for any guess, and
-// quick for a near one.
-fn guess(bits: u64) -> u64
-    requires { ⌜ bits < bitsOfFour ⌝ }
-    ensures { λ r. ⌜ (hidden ≤ r) × (r < past53) ⌝ }
-{
-    let x = f64::from_bits(bits);
-    let h = x * 0.5;
-    let y0 = f64::from_bits(0x5fe6_eb50_c7b5_37a9 - bits / 2);
-    let y1 = y0 * (1.5 - h * y0 * y0);
-    let y2 = y1 * (1.5 - h * y1 * y1);
-    let y3 = y2 * (1.5 - h * y2 * y2);
-    let near = x * y3;
-    let r = near + near * (0.5 - h * y3 * y3);
-    if r != r {
-        return HIDDEN;
-    }
-    HIDDEN + f64::to_bits(r) % HIDDEN
-}
-
-// What m * 2^54 is above a square; far off, it is not said.
-pub enum Rest {
-    Left(u64),
-    Far,
-}
-
-// m * 2^54 - s * s, where that is not negative and not large. With s = h * 2^27 + l it is
-// ((m - h * h) * 2^27 - 2 * h * l) * 2^27 - l * l.
-fn rest_of(m: u64, s: u64) -> Rest
-    requires { ⌜ (m < past54) × (s < past54) ⌝ }
-    ensures { λ r. ⌜ Leaves m s r ⌝ }
-{
-    let h = s / 0x800_0000;
-    let l = s % 0x800_0000;
-    let hh = h * h;
-    let hl = h * l;
-    let ll = l * l;
-    if m < hh {
-        return Rest::Far;
-    }
-    let d = m - hh;
-    if 0x4000_0000 <= d {
-        return Rest::Far;
-    }
-    let t = d * 0x800_0000;
-    if t < hl * 2 {
-        return Rest::Far;
-    }
-    let e = t - hl * 2;
-    if 0x2_0000_0000 <= e {
-        return Rest::Far;
-    }
-    let u = e * 0x800_0000;
-    if u < ll {
-        return Rest::Far;
-    }
-    Rest::Left(u - ll)
-}
-
-// From an s not above the whole root, up to it.
-fn climb(m: u64, s0: u64, rest0: u64) -> u64
-    requires { ⌜ (m < past54) × (s0 * s0 + rest0 ≡ m * past54) ⌝ }
-    ensures { λ r. ⌜ r ≡ isqrt 54 (m * past54) ⌝ }
-{
-    let mut s = s0;
-    let mut rest = rest0;
-    while s * 2 < rest {
-        rest = rest - (s * 2 + 1);
-        s = s + 1;
-    }
-    s
-}
-
-// The whole root of m * 2^54, with the guess at the number whose bits are `bits`.
-fn whole_root(m: u64, bits: u64) -> u64
-    requires { ⌜ (m < past54) × (bits < bitsOfFour) ⌝ }
-    ensures { λ r. ⌜ r ≡ isqrt 54 (m * past54) ⌝ }
-{
-    let s = guess(bits) * 2 - 2;
-    let r = rest_of(m, s);
-    match r {
-        Rest::Left(rest) => climb(m, s, rest),
-        Rest::Far => digits(m),
-    }
-}
-
-// ---- by the bits of the number
+// ---- the root of a significand, rounded
 
 // The float q * 2^k * 2^-1074, for a q of 53 digits.
 fn pack(q: u64, k: u64) -> f64
@@ -165,31 +75,109 @@ fn pack(q: u64, k: u64) -> f64
     f64::from_bits(k * HIDDEN + q)
 }
 
-// The root of m * 2^e * 2^-2096, for an m of 53 digits: of m or 2 * m, whichever leaves an even exponent.
-fn rounded(m: u64, e: u64) -> f64
+// q is nearest the root of m * 2^52: -q < m * 2^52 - q * q <= q. With q = h * 2^26 + l, m * 2^52 - q * q is
+// ((m - h * h) * 2^25 - h * l) * 2^27 - l * l; where that is far from zero, q is not nearest.
+fn is_nearest(m: u64, q: u64) -> bool
+    requires { ⌜ (m < past54) × (hidden ≤ q) × (q < past53) ⌝ }
+    ensures { λ t. ⌜ (t ≡ true → nearestRoot (m * hidden) ≡ q) ⌝ }
+{
+    let h = q / 0x400_0000;
+    let l = q % 0x400_0000;
+    let hh = h * h;
+    if m < hh {
+        return false;
+    }
+    let d = m - hh;
+    if 0x1000_0000 <= d {
+        return false;
+    }
+    let t = d * 0x200_0000 + 0x800_0000;
+    let hl = h * l;
+    if t < hl {
+        return false;
+    }
+    let g = t - hl;
+    if 0x2000_0000 <= g {
+        return false;
+    }
+    let u = g * 0x800_0000 + q;
+    let v = l * l + 0x40_0000_0000_0000;
+    if u <= v {
+        return false;
+    }
+    u <= v + q * 2
+}
+
+// r is the root of m * 2^e * 2^-2096, for an m of 53 digits: of m or 2 * m, whichever leaves an even exponent.
+fn is_root(m: u64, e: u64, r: f64) -> bool
+    requires { ⌜ (hidden ≤ m) × (m < past53) × (e < 4090) ⌝ }
+    ensures { λ t. ⌜ (t ≡ true → r ≡ rootOf (m * 2 ^ (e + 52))) ⌝ }
+{
+    if r != r {
+        return false;
+    }
+    let c = f64::to_bits(r);
+    let up = e / 2 * HIDDEN;
+    if c < up {
+        return false;
+    }
+    let q = c - up;
+    if q / HIDDEN != 1 {
+        return false;
+    }
+    is_nearest(m * (1 + e % 2), q)
+}
+
+// The same root: the guess, if it is the root.
+fn rounded(m: u64, e: u64, guess: f64) -> f64
     requires { ⌜ (hidden ≤ m) × (m < past53) × (e < 4090) ⌝ }
     ensures { λ r. ⌜ r ≡ rootOf (m * 2 ^ (e + 52)) ⌝ }
 {
-    let odd = e % 2;
-    let s = whole_root(m * (1 + odd), m + (1022 + odd) * HIDDEN);
+    if is_root(m, e, guess) {
+        return guess;
+    }
+    let s = digits(m * (1 + e % 2));
     pack((s + 1) / 2, e / 2)
 }
 
+// ---- by the bits of the number
+
+// A guess at the root of x, whose bits are b: 0.4 / √x from the bits, two steps of Newton's method, the root's upper half s,
+// and a correction by what x is above s * s.
+fn near(x: f64, b: u64) -> f64
+    requires { ⌜ b < infinity ⌝ }
+{
+    let y = f64::from_bits(0x5fe4_0700_0000_0000 - b / 2);
+    let w = y - x * 0.41758760410933576 * y * (y * y);
+    let v = w - x * 0.9407937043729621 * w * (w * w);
+    let t = x * 2.519992366717168 * v;
+    if t != t {
+        return t;
+    }
+    let c = f64::to_bits(t);
+    let s = f64::from_bits(c - c % 0x800_0000);
+    let p = s * s;
+    s + (x - p) * v * (1.889994275037876 - 2.000357822155326 * (v * v) * (x + p))
+}
+
 // A positive normal number.
-fn normal(b: u64) -> f64
+fn normal(x: f64, b: u64) -> f64
     requires { ⌜ (hidden ≤ b) × (b < infinity) ⌝ }
     ensures { λ r. ⌜ r ≡ root (ofBits binary64 b) ⌝ }
 {
-    rounded(HIDDEN + b % HIDDEN, b / HIDDEN + 1021)
+    rounded(HIDDEN + b % HIDDEN, b / HIDDEN + 1021, near(x, b))
 }
 
-// A positive subnormal number, moved up to 53 digits.
+// A positive subnormal number, moved up to 53 digits; the guess is at 2^54 times the root.
 fn subnormal(b: u64) -> f64
     requires { ⌜ (0 < b) × (b < hidden) ⌝ }
     ensures { λ r. ⌜ r ≡ root (ofBits binary64 b) ⌝ }
 {
     let shift = u64::leading_zeros(b) - 11;
-    rounded(b << shift, 1022 - shift as u64)
+    let m = b << shift;
+    let e = 1022 - shift as u64;
+    let c = m + (e - 914) * HIDDEN;
+    rounded(m, e, near(f64::from_bits(c), c) * 5.551115123125783e-17)
 }
 
 pub fn sqrt(x: f64) -> f64
@@ -199,19 +187,22 @@ pub fn sqrt(x: f64) -> f64
         return x;
     }
     let b = f64::to_bits(x);
-    if b % SIGN == 0 {
-        return x;
+    if b < HIDDEN {
+        if b == 0 {
+            return x;
+        }
+        return subnormal(b);
     }
-    if SIGN < b {
-        return 0.0 / 0.0;
+    if b < INFINITY {
+        return normal(x, b);
     }
     if b == INFINITY {
         return x;
     }
-    if b < HIDDEN {
-        return subnormal(b);
+    if b == SIGN {
+        return x;
     }
-    normal(b)
+    0.0 / 0.0
 }
 
 // ---- a promise: nothing is done, and the crate is not proved without the law

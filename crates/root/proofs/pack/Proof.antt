@@ -1,17 +1,12 @@
 -- `root::pack` meets its contract.
-use mathlib.Core.Path.{sym, subst}
-use mathlib.Core.Bool.{Bool, not}
-use Prim.Native.Nat.{_+_, _*_}
-use lib.Dec.{T}
 use native.Mathlib.Omega.{arith}
 use borrow.Author.Needs.{needs}
-use Rattle.root.specs.Weights.{hidden}
-use Rattle.root.proofs.Patterns.{at-normal, no-nan}
+use Rattle.root.proofs.Patterns.{at-normal, plain-bits}
 use Rattle.root.proofs.pack.Statement.{statement}
 use Rattle.root.proofs.pack.Tie as tie
 
 float-from-bits-result : tie.Need-float-from-bits-result
-float-from-bits-result c = subst (λ (t : Bool). T (not t)) (sym (no-nan (c .args .k * hidden + c .args .q) (omega arith))) tt
+float-from-bits-result c = plain-bits _ (omega arith)
 
 returns : tie.Need-returns
 returns c = at-normal (c .args .q) (c .args .k) (c .pre .0) (c .pre .1) (omega arith)

@@ -1,12 +1,9 @@
 -- `from_bits` is safe: bits up to those of infinity are no NaN.
-use Rattle.root.proofs.Patterns.{no-nan}
+use Rattle.root.proofs.Patterns.{plain-bits}
 use borrow.Author.Needs.{needs}
-use lib.Dec.{T}
-use mathlib.Core.Bool.{Bool, not}
-use mathlib.Core.Path.{subst, sym}
 use native.Mathlib.Omega.{arith}
 use Rattle.protocol.proofs.words.from_bits.Statement.{statement}
 use Rattle.protocol.proofs.words.from_bits.Tie as tie
 
 pub from-bits-spec : {M : Type 1} → statement M
-from-bits-spec = tie.close (tie.spec (λ c. search needs) (λ c. subst (λ (t : Bool). T (not t)) (sym (no-nan _ (omega arith))) tt) (λ c. search needs) (λ c. search needs))
+from-bits-spec = tie.close (tie.spec (λ c. search needs) (λ c. plain-bits _ (omega arith)) (λ c. search needs) (λ c. search needs))
