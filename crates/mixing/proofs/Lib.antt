@@ -1,2 +1,4 @@
 pub mod Computing
 pub mod Cases
+pub mod Kept
+pub mod Laws
