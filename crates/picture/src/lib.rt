@@ -6,11 +6,11 @@ ghost use lib.ListN.{length};
 ghost use Rattle.sheet.specs.Held.{Stored};
 ghost use Rattle.picture.specs.Picture.{Drawn, Pictured, writtenOf};
 use drawing::draw;
-use duty::duty_of;
+use drawn::duty_of;
 use sheet::Reported;
 use sheet_reader::read_sheet;
 
-mod duty;
+mod drawn;
 
 // The bytes of an output that has room for every picture.
 pub const ROOM: usize = 32768;

@@ -1,8 +1,8 @@
 -- `duty_of` ends: fewer readings are left at each turn.
 use Prim.Native.Nat.{_≤_, _-_}
 use borrow.Author.Needs.{needs}
-use Rattle.picture.proofs.duty.duty_of.Statement.{statement}
-use Rattle.picture.proofs.duty.duty_of.Tie as tie
+use Rattle.picture.proofs.drawn.duty_of.Statement.{statement}
+use Rattle.picture.proofs.drawn.duty_of.Tie as tie
 
 abbrev Inv-loop : tie.InvT-loop
 Inv-loop sheet ends stages p d₀ i₀ d i = i ≤ 64
