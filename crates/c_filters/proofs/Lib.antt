@@ -1,3 +1,1 @@
-pub mod Filters
-pub mod Steps
-pub mod Roads
+mod Roads

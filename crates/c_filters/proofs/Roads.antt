@@ -23,7 +23,7 @@ use Rattle.filtering.proofs.Shapes.{Way, stopped, went, way}
 use Rattle.layout.proofs.Rows.{whole-vector}
 use Rattle.steps.specs.Step.{wellSized}
 use Rattle.road.specs.Road.{Filter, updatedOf}
-use Rattle.c_filters.specs.Filter.{isFilter, isStep, isStepWith, isRoad, motionAt, sensorAt, estimateAt, roadIn, withEstimate, predictedIn, predictIn, outcomeIn, updateIn}
+use Rattle.c_copies.specs.Filter.{isFilter, isStep, isStepWith, isRoad, motionAt, sensorAt, estimateAt, roadIn, withEstimate, predictedIn, predictIn, outcomeIn, updateIn}
 
 pub record Road (n m i k j : ℕ) : Type 0 where
   pub states : n ≡ 2

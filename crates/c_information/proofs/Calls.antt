@@ -33,9 +33,9 @@ use Rattle.layout.proofs.Calls.{vector-used, matrix-used, matrix-put, part-read
 use Rattle.steps.specs.Step.{Rows, motionRows, estimateRows}
 use Rattle.information_steps.specs.Step.{informationRows, arraysOf, updateBy}
 use Rattle.information_steps.proofs.Ways.{Sized, Plain, plain, plain-estimate, plain-predict, shape-informed, length-informed, made-sizes, update-is, inverted, rejected}
-use Rattle.c_filters.specs.Filter.{estimatePlace, motionAt, sensorAt, estimateAt}
-use Rattle.c_filters.proofs.Filters.{Whole, Given, parts-given}
-use Rattle.c_filters.proofs.Steps.{isN, isM, motion-read, estimate-read, vector-given, put-back}
+use Rattle.c_copies.specs.Filter.{estimatePlace, motionAt, sensorAt, estimateAt}
+use Rattle.c_copies.proofs.Filters.{Whole, Given, parts-given}
+use Rattle.c_copies.proofs.Steps.{isN, isM, motion-read, estimate-read, vector-given, put-back}
 use Rattle.c_information.specs.Information.{informationAt, withInformation, steppedIn, outcomeIn, ofEstimateAt}
 
 -- where a filter's last n + n² numbers begin

@@ -12,8 +12,8 @@ use Rattle.algebra.specs.Matrix.{Vector}
 use Rattle.filtering.specs.Filter.{estimate}
 use Rattle.filtering.specs.Information.{Information, ofEstimate, covariance, state, predict, informed, update}
 use Rattle.layout.specs.Layout.{matrixAt, joined}
-use Rattle.c_filters.specs.Filter.{isStep, isStepWith, isParts, motionAt, sensorAt, estimateAt, withEstimate, toldIn}
-use Rattle.c_filters.specs.Filter as Linear
+use Rattle.c_copies.specs.Filter.{isStep, isStepWith, isParts, motionAt, sensorAt, estimateAt, withEstimate, toldIn}
+use Rattle.c_copies.specs.Filter as Linear
 
 -- ---- what the slice f keeps, and the slice with something else in its place; its model stays as it stands
 abbrev pub informationAt : ℕ → ℕ → ℕ → List Float → Information

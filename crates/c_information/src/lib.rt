@@ -7,9 +7,9 @@ ghost use Rattle.answer.specs.Told.{given};
 ghost use Rattle.c_information.specs.Information.{isSensor, predictIn, updateIn, fuseIn, resetIn, fromInformationIn, newIn};
 ghost use Rattle.c_information.specs.Information.{stateIn, covarianceIn, vectorIn, matrixIn};
 use answer::Status;
-use c_filters::is_filter;
-use c_filters::is_parts;
-use c_filters::is_step;
+use c_copies::is_filter;
+use c_copies::is_parts;
+use c_copies::is_step;
 use information_steps::update_by;
 use sizes::both;
 use sizes::size_of;
@@ -187,7 +187,7 @@ pub fn information_from_information(
         ≡ given (now (filter .entry)) (fromInformationIn n m i (length (now (filter .entry))) (now (a .entry)) (now (b .entry)) (now (h .entry))
         (now (q .entry)) (now (r .entry)) (now (omega0 .entry)) (now (xi0 .entry))) ⌝ }
 {
-    c_filters::kalman_new(n, m, i, a, b, h, q, r, xi0, omega0, filter)
+    c_copies::kalman_new(n, m, i, a, b, h, q, r, xi0, omega0, filter)
 }
 
 // Of the parts a, b, h, q and r, and of an estimate: omega is p0 inverted, and xi is omega times x0. Refused with 3: inversion
@@ -232,7 +232,7 @@ pub fn information_new(
         match answer {
             Status::Done => {
                 let from = filter.len() - (n + n * n);
-                c_filters::kalman_new(n, m, i, a, b, h, q, r, x0, p0, filter);
+                c_copies::kalman_new(n, m, i, a, b, h, q, r, x0, p0, filter);
                 layout::put_pair(filter, from, xi, &omega, sn);
                 0
             }
@@ -299,11 +299,11 @@ pub fn information_covariance(n: usize, m: usize, i: usize, filter: &[f64], out:
 pub fn information_matrix(n: usize, m: usize, i: usize, filter: &[f64], out: &mut [f64]) -> u8
     ensures { λ t. ⌜ (t, now (out .exit)) ≡ given (now (out .entry)) (matrixIn n m i (now (filter .entry)) (length (now (out .entry)))) ⌝ }
 {
-    c_filters::kalman_covariance(n, m, i, filter, out)
+    c_copies::kalman_covariance(n, m, i, filter, out)
 }
 
 pub fn information_vector(n: usize, m: usize, i: usize, filter: &[f64], out: &mut [f64]) -> u8
     ensures { λ t. ⌜ (t, now (out .exit)) ≡ given (now (out .entry)) (vectorIn n m i (now (filter .entry)) (length (now (out .entry)))) ⌝ }
 {
-    c_filters::kalman_state(n, m, i, filter, out)
+    c_copies::kalman_state(n, m, i, filter, out)
 }

@@ -13,7 +13,7 @@ use Rattle.layout.specs.Layout.{joined, placed, putAt, total, offset, rootParts
 use Rattle.layout.proofs.Parts.{Fits, none, more, next-part, all-parts}
 use Rattle.layout.proofs.Calls.{slice-put}
 use Rattle.steps.specs.Step.{wellSized}
-use Rattle.c_filters.proofs.Filters.{Few, few-of}
+use Rattle.c_copies.proofs.Filters.{Few, few-of}
 use Rattle.c_sqrt_kalman.specs.Root.{isFilter, isStep, isParts}
 
 -- ---- a slice of k numbers that passed the test of a filter

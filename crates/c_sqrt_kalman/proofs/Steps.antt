@@ -31,7 +31,7 @@ use Rattle.steps.specs.Step.{Rows, motionRows}
 use Rattle.steps.proofs.Sizes as Sizes
 use Rattle.sqrt_steps.specs.Step.{channelRows, factoredRows, arraysOf}
 use Rattle.sqrt_steps.proofs.Components.{Sized}
-use Rattle.c_filters.specs.Filter.{toldIn}
+use Rattle.c_copies.specs.Filter.{toldIn}
 use Rattle.c_sqrt_kalman.specs.Root.{statePlace, motionAt, channelAt, factoredAt, withFactored, steppedIn, outcomeIn}
 use Rattle.c_sqrt_kalman.proofs.Filters.{Whole}
 use Rattle.c_sqrt_kalman.proofs.Outcomes.{Kept, none, some, Tells, told-length, update-tells, update-kept, predict-kept}

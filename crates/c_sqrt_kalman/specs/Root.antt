@@ -13,7 +13,7 @@ use Rattle.filtering.specs.Filter.{Motion, Sensor, estimate}
 use Rattle.filtering.specs.SquareRoot.{Factored, factored, ofEstimate, covariance, predict, update}
 use Rattle.layout.specs.Layout.{vectorAt, matrixAt, joined, placed, total, offset, partAt, rootParts}
 use Rattle.steps.specs.Step.{wellSized}
-use Rattle.c_filters.specs.Filter.{toldIn}
+use Rattle.c_copies.specs.Filter.{toldIn}
 
 -- ---- sizes
 

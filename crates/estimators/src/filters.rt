@@ -3,7 +3,7 @@
 ghost use mathlib.Core.Path.{_≡_};
 ghost use lib.ListN.{length};
 ghost use Rattle.answer.specs.Told.{given};
-ghost use Rattle.c_filters.specs.Filter.{predictIn, updateIn, newIn, resetIn, stateIn, covarianceIn, trackerIn};
+ghost use Rattle.c_copies.specs.Filter.{predictIn, updateIn, newIn, resetIn, stateIn, covarianceIn, trackerIn};
 
 // One step on, with the input u of i numbers.
 #[no_mangle]
@@ -49,7 +49,7 @@ pub extern "C" fn kalman_new(
         (t, now (filter .exit)) ≡ given (now (filter .entry)) (newIn n m i (length (now (filter .entry)))
         (now (a .entry)) (now (b .entry)) (now (h .entry)) (now (q .entry)) (now (r .entry)) (now (x0 .entry)) (now (p0 .entry))) ⌝ }
 {
-    c_filters::kalman_new(n, m, i, a, b, h, q, r, x0, p0, filter)
+    c_copies::kalman_new(n, m, i, a, b, h, q, r, x0, p0, filter)
 }
 
 // Another state x0 and covariance p0; the model stays.
@@ -64,7 +64,7 @@ pub extern "C" fn kalman_reset(
 ) -> u8
     ensures { λ t. ⌜ (t, now (filter .exit)) ≡ given (now (filter .entry)) (resetIn n m i (now (filter .entry)) (now (x0 .entry)) (now (p0 .entry))) ⌝ }
 {
-    c_filters::kalman_reset(n, m, i, filter, x0, p0)
+    c_copies::kalman_reset(n, m, i, filter, x0, p0)
 }
 
 // The state, n numbers.
@@ -72,7 +72,7 @@ pub extern "C" fn kalman_reset(
 pub extern "C" fn kalman_state(n: usize, m: usize, i: usize, filter: &[f64], out: &mut [f64]) -> u8
     ensures { λ t. ⌜ (t, now (out .exit)) ≡ given (now (out .entry)) (stateIn n m i (now (filter .entry)) (length (now (out .entry)))) ⌝ }
 {
-    c_filters::kalman_state(n, m, i, filter, out)
+    c_copies::kalman_state(n, m, i, filter, out)
 }
 
 // The covariance, n rows of n numbers.
@@ -86,7 +86,7 @@ pub extern "C" fn kalman_covariance(
 ) -> u8
     ensures { λ t. ⌜ (t, now (out .exit)) ≡ given (now (out .entry)) (covarianceIn n m i (now (filter .entry)) (length (now (out .entry)))) ⌝ }
 {
-    c_filters::kalman_covariance(n, m, i, filter, out)
+    c_copies::kalman_covariance(n, m, i, filter, out)
 }
 
 // A filter of 19 numbers that tracks position and speed, with the step dt in seconds.

@@ -1,5 +1,5 @@
 -- `is_road` meets its contract.
-use Rattle.c_filters.specs.Filter.{isRoad}
+use Rattle.c_copies.specs.Filter.{isRoad}
 use borrow.Author.Needs.{needs}
 use Rattle.c_filters.proofs.is_road.Statement.{statement}
 use Rattle.c_filters.proofs.is_road.Tie as tie

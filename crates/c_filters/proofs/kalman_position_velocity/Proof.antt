@@ -12,7 +12,7 @@ use Rattle.answer.specs.Answer.{where-sized}
 use Rattle.layout.proofs.Places.{placed-whole}
 use Rattle.layout.proofs.Calls.{slice-put}
 use Rattle.road.specs.Road.{trackerOf}
-use Rattle.c_filters.specs.Filter.{filterNumbers}
+use Rattle.c_copies.specs.Filter.{filterNumbers}
 use borrow.Author.Needs.{needs}
 use Rattle.c_filters.proofs.kalman_position_velocity.Statement.{statement}
 use Rattle.c_filters.proofs.kalman_position_velocity.Tie as tie

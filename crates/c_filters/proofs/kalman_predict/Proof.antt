@@ -1,6 +1,6 @@
 -- `kalman_predict` meets its contract: one road by its numbers, and else rows.
 use native.Mathlib.Omega.{arith}
-use mathlib.Core.Path.{_≡_, sym, _∙_}
+use mathlib.Core.Path.{sym, _∙_}
 use lib.ListN.{length}
 use borrow.Author.Needs.{needs}
 use Rattle.c_filters.proofs.Roads.{Road, road-of, predicts}

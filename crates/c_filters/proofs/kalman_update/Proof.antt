@@ -8,7 +8,7 @@ use borrow.Author.Tests.{eqb-true}
 use Rattle.answer.proofs.Choice.{and-left, and-right}
 use Rattle.road.specs.Road.{estimateOf}
 use Rattle.road.proofs.Roads.{corrected-by}
-use Rattle.c_filters.specs.Filter.{isRoad}
+use Rattle.c_copies.specs.Filter.{isRoad}
 use borrow.Author.Needs.{needs}
 use Rattle.c_filters.proofs.Roads.{Road, road-of, updates, refuses}
 use Rattle.c_filters.proofs.kalman_update.Statement.{statement}

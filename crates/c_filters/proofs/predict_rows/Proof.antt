@@ -1,6 +1,6 @@
 -- `predict_rows` meets its contract: by the test of the slice.
 use native.Mathlib.Omega.{arith}
-use mathlib.Core.Path.{_≡_, refl, sym, ap, _∙_}
+use mathlib.Core.Path.{refl, sym, ap, _∙_}
 use mathlib.Core.Bool.{Bool}
 use Prim.Native.Nat.{ℕ}
 use mathlib.Core.List.{List}
@@ -8,10 +8,10 @@ use lib.ListN.{length}
 use lib.Ieee.{Float}
 use Rattle.answer.specs.Outcome.{if-fitting}
 use Rattle.filtering.specs.Linear.{predict}
-use Rattle.c_filters.specs.Filter.{motionAt, estimateAt, predictedIn}
+use Rattle.c_copies.specs.Filter.{motionAt, estimateAt, predictedIn}
 use borrow.Author.Needs.{needs}
-use Rattle.c_filters.proofs.Filters.{Step, step-of}
-use Rattle.c_filters.proofs.Steps.{predicts}
+use Rattle.c_copies.proofs.Filters.{Step, step-of, place-is, place-small}
+use Rattle.c_copies.proofs.Steps.{predicts}
 use Rattle.c_filters.proofs.predict_rows.Statement.{statement}
 use Rattle.c_filters.proofs.predict_rows.Tie as tie
 
@@ -39,7 +39,7 @@ returns c =
     let t = k .before in
     let g = t .before .before .before .before .args in
     let s = test t in
-    let is = predicts (g .n) (g .m) (g .i) (g .filter .now) (s .whole) (sn .size-of .ensures) refl (si .size-of2 .ensures) (k .estimate-place .ensures .0) (g .u .now) (s .same)
+    let is = predicts (g .n) (g .m) (g .i) (g .filter .now) (s .whole) (sn .size-of .ensures) refl (si .size-of2 .ensures) (place-is (g .n) (g .m) (g .i) (s .whole .sizes) (k .place-of .ensures)) (g .u .now) (s .same)
     (a .matrix-at .ensures) (b .matrix-at2 .ensures) (q .matrix-at3 .ensures) (v .vector-at .ensures) (x .vector-at2 .ensures) (p .matrix-at4 .ensures) (step .predict .ensures) (put .put-pair .ensures) in
     (λ j. (0, is j)) ∙ ap (by (g .n) (g .m) (g .i) (g .filter .now) (g .u .now)) (sym (sym (t .before .is-step .ensures) ∙ t .if1 .taken))
 
@@ -49,9 +49,9 @@ returns-2 c = let g = c .before .before .before .before .args in ap (by (g .n) (
 pub predict-rows-spec : {M : Type 1} → statement M
 predict-rows-spec =
     tie.close
-    (tie.spec (λ c κs. search needs) (λ c κs. test c .whole .sizes)
-    (λ c κs. search needs) (λ c κs. search needs) (λ c κs. search needs) (λ c. search needs) (λ c κs. search needs)
-    (λ c. search needs) (λ c. search needs) (λ c. search needs) (λ c. search needs) (λ c. search needs)
+    (tie.spec (λ c κs. search needs) (λ c κs. search needs)
+    (λ c κs. search needs) (λ c κs. search needs) (λ c κs. search needs) (λ c. omega (arith, test (c .before .before .before .before .before .before) .whole .few)) (λ c κs. search needs)
+    (λ c. omega (arith, test (c .before .before .before .before .before .before .before .before) .whole .few)) (λ c. omega (arith, test (c .before .before .before .before .before .before .before .before) .whole .few)) (λ c. omega (arith, test (c .before .before .before .before .before .before .before .before) .whole .few)) (λ c. omega (arith, test (c .before .before .before .before .before .before .before .before) .whole .few)) (λ c. omega (arith, test (c .before .before .before .before .before .before .before .before) .whole .few))
     (λ c κs. search needs) (λ c κs. search needs) (λ c κs. search needs)
-    (λ c. let k = c .before .before .before .before .before .before .before .before .before .before .before .before in omega (arith, test (k .before) .whole .few, k .estimate-place .ensures))
+    (λ c. let k = c .before .before .before .before .before .before .before .before .before .before .before .before in let w = test (k .before) .whole in omega (arith, w .few, place-is _ _ _ (w .sizes) (k .place-of .ensures), place-small _ _ _ (w .sizes)))
     (λ c κs. search needs) (λ c κs. search needs) (λ c κs. search needs) (λ c. search needs) returns returns-2)

@@ -11,10 +11,10 @@ use borrow.Author.Tests.{eqb-true}
 use Rattle.answer.proofs.Choice.{and-left, and-right}
 use Rattle.answer.specs.Outcome.{if-fitting}
 use Rattle.filtering.specs.Linear.{update}
-use Rattle.c_filters.specs.Filter.{isStep, isStepWith, sensorAt, estimateAt, outcomeIn}
+use Rattle.c_copies.specs.Filter.{isStep, isStepWith, sensorAt, estimateAt, outcomeIn}
 use borrow.Author.Needs.{needs}
-use Rattle.c_filters.proofs.Filters.{Step, step-of}
-use Rattle.c_filters.proofs.Steps.{updates, refuses}
+use Rattle.c_copies.proofs.Filters.{Step, step-of, place-is, place-small}
+use Rattle.c_copies.proofs.Steps.{updates, refuses}
 use Rattle.c_filters.proofs.update_rows.Statement.{statement}
 use Rattle.c_filters.proofs.update_rows.Tie as tie
 
@@ -59,7 +59,7 @@ returns c =
     let t = k .before in
     let g = t .before .before .before .before .before .before .args in
     let s = test t in
-    updates (g .n) (g .m) (g .i) (g .filter .now) (s .whole) (sn .size-of .ensures) (sm .size-of2 .ensures) refl (k .estimate-place .ensures .0) (g .z .now) (s .same)
+    updates (g .n) (g .m) (g .i) (g .filter .now) (s .whole) (sn .size-of .ensures) (sm .size-of2 .ensures) refl (place-is (g .n) (g .m) (g .i) (s .whole .sizes) (k .place-of .ensures)) (g .z .now) (s .same)
     (h .matrix-at .ensures) (r .matrix-at2 .ensures) (v .vector-at .ensures) (x .vector-at2 .ensures) (p .matrix-at3 .ensures) (step .update .ensures) (g .innovation .now) (room t) (told .enum-told .given .1)
     (put .put-pair .ensures) (vec .put-vector .ensures)
     ∙ ap (by (g .n) (g .m) (g .i) (g .filter .now) (g .z .now) (g .innovation .now)) (sym (passed t))
@@ -79,7 +79,7 @@ returns-2 c =
     let t = k .before in
     let g = t .before .before .before .before .before .before .args in
     let s = test t in
-    refuses (g .n) (g .m) (g .i) (g .filter .now) (s .whole) (sn .size-of .ensures) (sm .size-of2 .ensures) refl (k .estimate-place .ensures .0) (g .z .now) (s .same)
+    refuses (g .n) (g .m) (g .i) (g .filter .now) (s .whole) (sn .size-of .ensures) (sm .size-of2 .ensures) refl (place-is (g .n) (g .m) (g .i) (s .whole .sizes) (k .place-of .ensures)) (g .z .now) (s .same)
     (h .matrix-at .ensures) (r .matrix-at2 .ensures) (v .vector-at .ensures) (x .vector-at2 .ensures) (p .matrix-at3 .ensures) (step .update .ensures) (g .innovation .now) (told .status .given .1)
     ∙ ap (by (g .n) (g .m) (g .i) (g .filter .now) (g .z .now) (g .innovation .now)) (sym (passed t))
 
@@ -91,11 +91,11 @@ returns-3 c =
 pub update-rows-spec : {M : Type 1} → statement M
 update-rows-spec =
     tie.close
-    (tie.spec (λ c κs. search needs) (λ c κs. search needs) (λ c κs. test c .whole .sizes)
-    (λ c κs. search needs) (λ c κs. search needs) (λ c. search needs) (λ c. search needs) (λ c. search needs)
-    (λ c κs. search needs) (λ c. search needs) (λ c. search needs) (λ c. search needs) (λ c. search needs)
-    (λ c. search needs) (λ c. search needs) (λ c. search needs) (λ c κs. search needs) (λ c κs. search needs)
+    (tie.spec (λ c κs. search needs) (λ c κs. search needs) (λ c κs. search needs)
+    (λ c κs. search needs) (λ c κs. search needs) (λ c. omega (arith, test (c .before .before .before .before) .whole .few)) (λ c. omega (arith, test (c .before .before .before .before) .whole .few)) (λ c. omega (arith, test (c .before .before .before .before) .whole .few))
+    (λ c κs. search needs) (λ c. omega (arith, test (c .before .before .before .before .before .before) .whole .few)) (λ c. omega (arith, test (c .before .before .before .before .before .before) .whole .few)) (λ c. omega (arith, test (c .before .before .before .before .before .before) .whole .few)) (λ c. omega (arith, test (c .before .before .before .before .before .before) .whole .few))
+    (λ c. omega (arith, test (c .before .before .before .before .before .before) .whole .few)) (λ c. omega (arith, test (c .before .before .before .before .before .before) .whole .few)) (λ c. omega (arith, test (c .before .before .before .before .before .before) .whole .few)) (λ c κs. search needs) (λ c κs. search needs)
     (λ c κs. search needs)
-    (λ c. let k = c .before .before .before .before .before .before .before .before .before .before in omega (arith, test (k .before) .whole .few, k .estimate-place .ensures))
+    (λ c. let k = c .before .before .before .before .before .before .before .before .before .before in let w = test (k .before) .whole in omega (arith, w .few, place-is _ _ _ (w .sizes) (k .place-of .ensures), place-small _ _ _ (w .sizes)))
     (λ c κs. search needs) (λ c κs. search needs) (λ c. search needs) (λ c κs. search needs) (λ c κs. search needs)
     (λ c. search needs) (λ c. search needs) (λ c. search needs) returns (λ c. search needs) returns-2 returns-3)

@@ -19,8 +19,8 @@ use Rattle.filtering.specs.Information.{covariance}
 use Rattle.layout.specs.Layout.{joined, filterParts}
 use Rattle.layout.proofs.Calls.{part-read}
 use Rattle.steps.proofs.Sizes.{well-sized}
-use Rattle.c_filters.specs.Filter.{isFilter, isStep}
-use Rattle.c_filters.proofs.Filters.{Whole, whole-of, and-tested, and-failed}
+use Rattle.c_copies.specs.Filter.{isFilter, isStep}
+use Rattle.c_copies.proofs.Filters.{Whole, whole-of, and-tested, and-failed}
 use Rattle.c_information.specs.Information.{informationAt}
 use Rattle.c_information.proofs.Calls.{matrix-written, matrix-refused}
 use borrow.Author.Needs.{needs}

@@ -11,8 +11,8 @@ use lib.Ieee.{Float}
 use borrow.Author.Tests.{eqb-true}
 use Rattle.answer.specs.Outcome.{if-fitting}
 use Rattle.answer.proofs.Choice.{and-left, and-right}
-use Rattle.c_filters.specs.Filter.{isStep}
-use Rattle.c_filters.proofs.Filters.{Step, step-of}
+use Rattle.c_copies.specs.Filter.{isStep}
+use Rattle.c_copies.proofs.Filters.{Step, step-of}
 use Rattle.c_information.specs.Information.{isSensor, informationAt, fusedAt, steppedIn}
 use Rattle.c_information.proofs.Calls.{fuses}
 use borrow.Author.Needs.{needs}

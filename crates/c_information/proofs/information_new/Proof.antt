@@ -13,7 +13,7 @@ use Rattle.filtering.specs.Information.{Information}
 use Rattle.layout.specs.Layout.{joined}
 use Rattle.steps.proofs.Sizes.{well-sized}
 use Rattle.information_steps.specs.Step.{arraysOf}
-use Rattle.c_filters.proofs.Filters.{Given, given-of}
+use Rattle.c_copies.proofs.Filters.{Given, given-of}
 use Rattle.c_information.specs.Information.{withInformation, ofEstimateAt}
 use Rattle.c_information.proofs.Calls.{estimate-given, new-made, new-refused}
 use borrow.Author.Needs.{needs}

@@ -11,9 +11,9 @@ use Rattle.answer.specs.Told.{statusOf}
 use Rattle.filtering.specs.Information.{predict}
 use Rattle.information_steps.specs.Step.{arraysOf}
 use Rattle.information_steps.proofs.Ways.{plain-predict}
-use Rattle.c_filters.specs.Filter.{motionAt}
-use Rattle.c_filters.proofs.Filters.{Step, step-of}
-use Rattle.c_filters.proofs.Steps.{isI, motion-read, vector-given}
+use Rattle.c_copies.specs.Filter.{motionAt}
+use Rattle.c_copies.proofs.Filters.{Step, step-of}
+use Rattle.c_copies.proofs.Steps.{isI, motion-read, vector-given}
 use Rattle.c_information.specs.Information.{informationAt, steppedIn}
 use Rattle.c_information.proofs.Calls.{place, information-read, stepped, stopped}
 use borrow.Author.Needs.{needs}

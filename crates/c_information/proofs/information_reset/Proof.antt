@@ -18,8 +18,8 @@ use Rattle.filtering.specs.Information.{Information}
 use Rattle.steps.proofs.Sizes.{well-sized}
 use Rattle.information_steps.specs.Step.{arraysOf}
 use Rattle.information_steps.proofs.Ways.{plain-estimate}
-use Rattle.c_filters.specs.Filter.{isStep, isStepWith}
-use Rattle.c_filters.proofs.Filters.{Step, step-of, and-tested, and-failed}
+use Rattle.c_copies.specs.Filter.{isStep, isStepWith}
+use Rattle.c_copies.proofs.Filters.{Step, step-of, and-tested, and-failed}
 use Rattle.c_information.specs.Information.{ofEstimateAt, steppedIn}
 use Rattle.c_information.proofs.Calls.{estimate-given, stepped, stopped}
 use borrow.Author.Needs.{needs}

@@ -13,7 +13,7 @@ use Rattle.sizes.proofs.Sizes.{is-count}
 use Rattle.filtering.specs.Information.{state}
 use Rattle.steps.proofs.Sizes.{well-sized}
 use Rattle.information_steps.proofs.Ways.{length-state}
-use Rattle.c_filters.proofs.Filters.{Step, step-of}
+use Rattle.c_copies.proofs.Filters.{Step, step-of}
 use Rattle.c_information.specs.Information.{informationAt}
 use Rattle.c_information.proofs.Calls.{information-read, vector-written, vector-refused}
 use borrow.Author.Needs.{needs}

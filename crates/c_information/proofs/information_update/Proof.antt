@@ -15,8 +15,8 @@ use Rattle.sizes.specs.Size.{part}
 use Rattle.matrix.specs.Result.{asVector}
 use Rattle.filtering.specs.Information.{update}
 use Rattle.information_steps.specs.Step.{arraysOf}
-use Rattle.c_filters.specs.Filter.{isStep, isStepWith, sensorAt}
-use Rattle.c_filters.proofs.Filters.{Step, step-of}
+use Rattle.c_copies.specs.Filter.{isStep, isStepWith, sensorAt}
+use Rattle.c_copies.proofs.Filters.{Step, step-of}
 use Rattle.c_information.specs.Information.{informationAt, outcomeIn}
 use Rattle.c_information.proofs.Calls.{noise-inverted, noise-rejected, update-read, updates, refuses, not-updated}
 use borrow.Author.Needs.{needs}

@@ -6,8 +6,8 @@ use lib.ListN.{length}
 use mathlib.Core.Bool.{_&&_}
 use lib.Dec.{eqb}
 use Prim.Native.Nat.{_*_}
-use Rattle.c_filters.specs.Filter.{isStep}
-use Rattle.c_filters.proofs.Filters.{Few, step-of, and-tested, and-failed}
+use Rattle.c_copies.specs.Filter.{isStep}
+use Rattle.c_copies.proofs.Filters.{Few, step-of, and-tested, and-failed}
 use Rattle.c_information.specs.Information.{isSensor}
 use borrow.Author.Needs.{needs}
 use Rattle.c_information.proofs.is_sensor.Statement.{statement}

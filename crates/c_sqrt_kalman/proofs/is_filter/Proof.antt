@@ -4,7 +4,7 @@ use mathlib.Core.Path.{_≡_, refl, sym, _∙_}
 use mathlib.Core.Bool.{true}
 use Rattle.steps.specs.Step.{wellSized}
 use borrow.Author.Needs.{needs}
-use Rattle.c_filters.proofs.Filters.{Few, few-of}
+use Rattle.c_copies.proofs.Filters.{Few, few-of}
 use Rattle.c_sqrt_kalman.proofs.Filters.{filter-tested, filter-unsized}
 use Rattle.c_sqrt_kalman.proofs.is_filter.Statement.{statement}
 use Rattle.c_sqrt_kalman.proofs.is_filter.Tie as tie

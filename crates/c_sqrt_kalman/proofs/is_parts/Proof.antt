@@ -6,7 +6,7 @@ use lib.Dec.{eqb}
 use Prim.Native.Nat.{_*_}
 use Rattle.c_sqrt_kalman.specs.Root.{isFilter, isParts}
 use borrow.Author.Needs.{needs}
-use Rattle.c_filters.proofs.Filters.{Few, and-tested, and-failed}
+use Rattle.c_copies.proofs.Filters.{Few, and-tested, and-failed}
 use Rattle.c_sqrt_kalman.proofs.Filters.{whole-of}
 use Rattle.c_sqrt_kalman.proofs.is_parts.Statement.{statement}
 use Rattle.c_sqrt_kalman.proofs.is_parts.Tie as tie

@@ -12,7 +12,7 @@ use Rattle.answer.specs.Told.{given}
 use Rattle.answer.specs.Answer.{where-sized}
 use Rattle.c_sqrt_kalman.specs.Root.{statePlace, isFilter, isStep}
 use borrow.Author.Needs.{needs}
-use Rattle.c_filters.proofs.Filters.{and-tested, and-failed, copied}
+use Rattle.c_copies.proofs.Filters.{and-tested, and-failed, copied}
 use Rattle.c_sqrt_kalman.proofs.Filters.{Whole, whole-of}
 use Rattle.c_sqrt_kalman.proofs.sqrt_kalman_cholesky_factor.Statement.{statement}
 use Rattle.c_sqrt_kalman.proofs.sqrt_kalman_cholesky_factor.Tie as tie

@@ -16,7 +16,7 @@ use Rattle.sizes.proofs.Sizes.{is-count}
 use Rattle.layout.specs.Layout.{joined}
 use Rattle.filtering.specs.SquareRoot.{covariance}
 use Rattle.steps.proofs.Sizes.{well-sized}
-use Rattle.c_filters.proofs.Filters.{and-tested, and-failed}
+use Rattle.c_copies.proofs.Filters.{and-tested, and-failed}
 use Rattle.c_sqrt_kalman.proofs.Starts.{covers}
 use Rattle.c_sqrt_kalman.proofs.Filters.{Whole, whole-of}
 use Rattle.c_sqrt_kalman.proofs.sqrt_kalman_covariance.Statement.{statement}

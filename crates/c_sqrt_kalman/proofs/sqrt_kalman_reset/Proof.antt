@@ -21,7 +21,7 @@ use Rattle.filtering.specs.SquareRoot.{ofEstimate}
 use Rattle.layout.specs.Layout.{matrixAt}
 use Rattle.steps.proofs.Sizes.{well-sized}
 use Rattle.sqrt_steps.proofs.Predictions.{answered-rows}
-use Rattle.c_filters.proofs.Filters.{and-tested, and-failed}
+use Rattle.c_copies.proofs.Filters.{and-tested, and-failed}
 use Rattle.c_sqrt_kalman.specs.Root.{isStep, isStepWith, steppedIn}
 use Rattle.c_sqrt_kalman.proofs.Filters.{Step, step-of}
 use Rattle.c_sqrt_kalman.proofs.Starts.{reset-done, reset-refused}

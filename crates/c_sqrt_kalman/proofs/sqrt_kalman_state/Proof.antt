@@ -10,7 +10,7 @@ use Rattle.answer.specs.Told.{given}
 use Rattle.answer.specs.Answer.{where-sized}
 use Rattle.c_sqrt_kalman.specs.Root.{statePlace}
 use borrow.Author.Needs.{needs}
-use Rattle.c_filters.proofs.Filters.{copied}
+use Rattle.c_copies.proofs.Filters.{copied}
 use Rattle.c_sqrt_kalman.proofs.Filters.{Step, step-of}
 use Rattle.c_sqrt_kalman.proofs.sqrt_kalman_state.Statement.{statement}
 use Rattle.c_sqrt_kalman.proofs.sqrt_kalman_state.Tie as tie

@@ -1,6 +1,6 @@
 -- `state_place` meets its contract: the sum of four products and a size.
 use native.Mathlib.Omega.{arith}
-use Rattle.c_filters.proofs.Filters.{Few, few-of}
+use Rattle.c_copies.proofs.Filters.{Few, few-of}
 use Rattle.c_sqrt_kalman.proofs.state_place.Statement.{statement}
 use Rattle.c_sqrt_kalman.proofs.state_place.Tie as tie
 

@@ -1,6 +1,6 @@
 -- `kalman_new` meets its contract: one part after another.
 use native.Mathlib.Omega.{arith}
-use mathlib.Core.Path.{_≡_, refl, sym, ap, _∙_}
+use mathlib.Core.Path.{refl, sym, ap, _∙_}
 use mathlib.Core.Bool.{Bool}
 use mathlib.Core.List.{[], _∷_}
 use lib.ListN.{length}
@@ -9,9 +9,9 @@ use Rattle.answer.specs.Answer.{where-sized}
 use Rattle.layout.specs.Layout.{joined}
 use Rattle.layout.proofs.Places.{placed-none}
 use borrow.Author.Needs.{needs}
-use Rattle.c_filters.proofs.Filters.{Given, given-of, put-next, put-all}
-use Rattle.c_filters.proofs.kalman_new.Statement.{statement}
-use Rattle.c_filters.proofs.kalman_new.Tie as tie
+use Rattle.c_copies.proofs.Filters.{Given, given-of, put-next, put-all}
+use Rattle.c_copies.proofs.kalman_new.Statement.{statement}
+use Rattle.c_copies.proofs.kalman_new.Tie as tie
 
 test : (c : tie.Then1) → let a = c .before .before .before .before .before .before .before .before .before .before .args in
     Given (a .n) (a .m) (a .i) (length (a .filter .now)) (a .a .now) (a .b .now) (a .h .now) (a .q .now) (a .r .now) (a .x0 .now) (a .p0 .now)

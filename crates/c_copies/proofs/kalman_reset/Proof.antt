@@ -1,7 +1,7 @@
 -- `kalman_reset` meets its contract: two copies, one behind the other.
 use native.Mathlib.Omega.{arith}
-use mathlib.Core.Path.{_≡_, refl, sym, ap, _∙_}
-use mathlib.Core.Bool.{Bool, true, _&&_}
+use mathlib.Core.Path.{refl, sym, ap, _∙_}
+use mathlib.Core.Bool.{Bool}
 use mathlib.Core.List.{List, _++_}
 use lib.Ieee.{Float}
 use Prim.Native.Nat.{ℕ, _*_}
@@ -13,11 +13,11 @@ use Rattle.answer.specs.Answer.{where-sized}
 use Rattle.layout.specs.Layout.{placed}
 use Rattle.layout.proofs.Places.{then-placed}
 use Rattle.layout.proofs.Calls.{slice-put}
-use Rattle.c_filters.specs.Filter.{estimatePlace, isStep, isStepWith}
+use Rattle.c_copies.specs.Filter.{estimatePlace, isStep, isStepWith}
 use borrow.Author.Needs.{needs}
-use Rattle.c_filters.proofs.Filters.{Step, step-of, and-tested, and-failed}
-use Rattle.c_filters.proofs.kalman_reset.Statement.{statement}
-use Rattle.c_filters.proofs.kalman_reset.Tie as tie
+use Rattle.c_copies.proofs.Filters.{Step, step-of, and-tested, and-failed}
+use Rattle.c_copies.proofs.kalman_reset.Statement.{statement}
+use Rattle.c_copies.proofs.kalman_reset.Tie as tie
 
 test : (c : tie.Then1) → let a = c .before .before .before .before .before .args in Step (a .n) (a .m) (a .i) (length (a .filter .now)) (a .n) (length (a .x0 .now))
 test c = step-of _ _ _ _ _ _ (sym (c .before .is-step .ensures) ∙ c .if1 .taken)

@@ -4,9 +4,9 @@ use mathlib.Core.Path.{_≡_, refl, sym, _∙_}
 use mathlib.Core.Bool.{true}
 use Rattle.steps.specs.Step.{wellSized}
 use borrow.Author.Needs.{needs}
-use Rattle.c_filters.proofs.Filters.{Few, few-of, filter-tested, filter-unsized}
-use Rattle.c_filters.proofs.is_filter.Statement.{statement}
-use Rattle.c_filters.proofs.is_filter.Tie as tie
+use Rattle.c_copies.proofs.Filters.{Few, few-of, filter-tested, filter-unsized}
+use Rattle.c_copies.proofs.is_filter.Statement.{statement}
+use Rattle.c_copies.proofs.is_filter.Tie as tie
 
 sizes : (c : tie.Then1) → let a = c .before .before .args in wellSized (a .n) (a .m) (a .i) ≡ true
 sizes c = sym (c .before .is-well-sized .ensures) ∙ c .if1 .taken

@@ -1,6 +1,6 @@
 -- `kalman_covariance` meets its contract: a copy of a part.
 use native.Mathlib.Omega.{arith}
-use mathlib.Core.Path.{_≡_, refl, sym, ap, _∙_}
+use mathlib.Core.Path.{refl, sym, ap, _∙_}
 use mathlib.Core.Bool.{Bool}
 use mathlib.Core.List.{List}
 use Prim.Native.Nat.{ℕ, _+_, _*_}
@@ -10,11 +10,11 @@ use lib.Ieee.{Float}
 use borrow.Author.Tests.{eq-eqb, ne-eqb}
 use Rattle.answer.specs.Told.{given}
 use Rattle.answer.specs.Answer.{where-sized}
-use Rattle.c_filters.specs.Filter.{estimatePlace, isFilter, isStep}
+use Rattle.c_copies.specs.Filter.{estimatePlace, isFilter, isStep}
 use borrow.Author.Needs.{needs}
-use Rattle.c_filters.proofs.Filters.{Whole, whole-of, and-tested, and-failed, copied}
-use Rattle.c_filters.proofs.kalman_covariance.Statement.{statement}
-use Rattle.c_filters.proofs.kalman_covariance.Tie as tie
+use Rattle.c_copies.proofs.Filters.{Whole, whole-of, and-tested, and-failed, copied}
+use Rattle.c_copies.proofs.kalman_covariance.Statement.{statement}
+use Rattle.c_copies.proofs.kalman_covariance.Tie as tie
 
 test : (c : tie.Then1) → let a = c .before .before .before .before .args in Whole (a .n) (a .m) (a .i) (length (a .filter .now))
 test c = whole-of _ _ _ _ (sym (c .before .is-filter .ensures) ∙ c .if1 .taken)

@@ -1,6 +1,6 @@
 -- `kalman_state` meets its contract: a copy of a part.
 use native.Mathlib.Omega.{arith}
-use mathlib.Core.Path.{_≡_, refl, sym, ap, _∙_}
+use mathlib.Core.Path.{sym, ap, _∙_}
 use mathlib.Core.Bool.{Bool}
 use mathlib.Core.List.{List}
 use Prim.Native.Nat.{ℕ}
@@ -8,11 +8,11 @@ use lib.ListN.{length, take, drop}
 use lib.Ieee.{Float}
 use Rattle.answer.specs.Told.{given}
 use Rattle.answer.specs.Answer.{where-sized}
-use Rattle.c_filters.specs.Filter.{estimatePlace}
+use Rattle.c_copies.specs.Filter.{estimatePlace}
 use borrow.Author.Needs.{needs}
-use Rattle.c_filters.proofs.Filters.{Step, step-of, copied}
-use Rattle.c_filters.proofs.kalman_state.Statement.{statement}
-use Rattle.c_filters.proofs.kalman_state.Tie as tie
+use Rattle.c_copies.proofs.Filters.{Step, step-of, copied}
+use Rattle.c_copies.proofs.kalman_state.Statement.{statement}
+use Rattle.c_copies.proofs.kalman_state.Tie as tie
 
 test : (c : tie.Then1) → let a = c .before .before .before .before .args in Step (a .n) (a .m) (a .i) (length (a .filter .now)) (a .n) (length (a .out .now))
 test c = step-of _ _ _ _ _ _ (sym (c .before .is-step .ensures) ∙ c .if1 .taken)

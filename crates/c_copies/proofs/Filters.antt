@@ -1,7 +1,7 @@
 -- A filter in a slice: what its tests say, and that a step on the rows that were read is the step on the slice. Assumes nothing.
-use mathlib.Core.Path.{_≡_, refl, sym, ap, ap₂, _∙_}
-use mathlib.Core.List.{List, [], _∷_, _++_}
-use mathlib.Core.Bool.{Bool, true, false, _&&_}
+use mathlib.Core.Path.{_≡_, sym, ap, ap₂, _∙_}
+use mathlib.Core.List.{List, [], _∷_}
+use mathlib.Core.Bool.{Bool, true, false, _&&_, cond}
 use Prim.Native.Nat.{ℕ, suc, _+_, _-_, _*_, _≤_, _<_}
 use native.Mathlib.Nat.{mul-le-mul}
 use native.Mathlib.Omega.{arith}
@@ -9,7 +9,7 @@ use lib.Dec.{eqb}
 use lib.ListN.{length, getD, take, drop, length-take, length-drop}
 use lib.Ieee.{Float}
 use borrow.Author.Tests.{eqb-true}
-use Rattle.answer.proofs.Choice.{and-left, and-right}
+use Rattle.answer.proofs.Choice.{cond-true, and-left, and-right}
 use Rattle.sizes.proofs.Sizes.{bounds-of}
 use Rattle.layout.specs.Layout.{joined, placed, putAt, total, offset, filterParts}
 use Rattle.layout.proofs.Parts.{Fits, none, more, next-part, all-parts}
@@ -17,7 +17,7 @@ use Rattle.layout.proofs.Places.{placed-whole}
 use Rattle.layout.proofs.Calls.{slice-put}
 use Rattle.steps.specs.Step.{wellSized}
 use Rattle.steps.proofs.Sizes as Sizes
-use Rattle.c_filters.specs.Filter.{estimatePlace, isFilter, isStep, isStepWith, isParts}
+use Rattle.c_copies.specs.Filter.{estimatePlace, isFilter, isStep, isParts}
 
 -- ---- the products of the sizes are small
 pub record Few (n m i : ℕ) : Type 0 where
@@ -34,6 +34,13 @@ few-of n m i e =
     let N = bounds-of n (s .states) .most in
     let M = bounds-of m (s .measurements) .most in
     record { states = N; measurements = M; transition = mul-le-mul N N; input = mul-le-mul N (bounds-of i (s .inputs) .most); measuring = mul-le-mul M N; noise = mul-le-mul M M }
+
+-- ---- where the estimate begins, as the code has it: k
+pub place-is : (n m i : ℕ) {k : ℕ} → wellSized n m i ≡ true → k ≡ cond (wellSized n m i) (estimatePlace n m i) 0 → k ≡ estimatePlace n m i
+place-is n m i e q = q ∙ cond-true (estimatePlace n m i) 0 e
+
+pub place-small : (n m i : ℕ) → wellSized n m i ≡ true → estimatePlace n m i ≤ 80
+place-small n m i e = omega (arith, few-of n m i e)
 
 -- ---- a slice of k numbers that passed the test of a filter
 pub record Whole (n m i k : ℕ) : Type 0 where

@@ -1,8 +1,8 @@
 -- `is_step` meets its contract.
-use Rattle.c_filters.specs.Filter.{isStep}
+use Rattle.c_copies.specs.Filter.{isStep}
 use borrow.Author.Needs.{needs}
-use Rattle.c_filters.proofs.is_step.Statement.{statement}
-use Rattle.c_filters.proofs.is_step.Tie as tie
+use Rattle.c_copies.proofs.is_step.Statement.{statement}
+use Rattle.c_copies.proofs.is_step.Tie as tie
 
 returns : tie.Need-returns
 unfolding isStep

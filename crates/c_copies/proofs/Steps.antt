@@ -1,7 +1,6 @@
 -- A step on the rows that were read from a slice is the step on the slice, and what is put back is what it leaves. Assumes nothing.
 use mathlib.Core.Path.{_≡_, refl, sym, ap, ap₂, _∙_}
 use mathlib.Core.List.{List, _++_}
-use mathlib.Core.Bool.{true}
 use Prim.Native.Nat.{ℕ, _+_, _*_}
 use native.Mathlib.Omega.{arith}
 use lib.ListN.{length}
@@ -17,7 +16,7 @@ use Rattle.matrix.specs.declared.VectorResult.{VectorResult}
 use Rattle.sizes.specs.Size.{sizeOf, count}
 use Rattle.sizes.proofs.Sizes.{is-count}
 use Rattle.matrix.proofs.Results.{done-not-refused}
-use Rattle.filtering.specs.Filter.{Motion, Sensor, Estimate, estimate, predictedState, predictedCovariance}
+use Rattle.filtering.specs.Filter.{Estimate, estimate, predictedState, predictedCovariance}
 use Rattle.filtering.specs.Linear.{predict, update}
 use Rattle.filtering.proofs.Shapes.{Sized, Way, stopped, went, way, length-predictedState, shape-propagated}
 use Rattle.layout.specs.Layout.{vectorIn, matrixIn, joined, placed, putAt, filterParts}
@@ -26,8 +25,8 @@ use Rattle.layout.proofs.Rows.{whole-vector}
 use Rattle.layout.proofs.Calls.{vector-used, part-read, pair-put, vector-put}
 use Rattle.steps.specs.Step.{Rows, motionRows, sensorRows, estimateRows, leftRows, updatedRows}
 use Rattle.steps.proofs.Sizes as Sizes
-use Rattle.c_filters.specs.Filter.{estimatePlace, motionAt, sensorAt, estimateAt, withEstimate, outcomeIn}
-use Rattle.c_filters.proofs.Filters.{Whole}
+use Rattle.c_copies.specs.Filter.{estimatePlace, motionAt, sensorAt, estimateAt, withEstimate, outcomeIn}
+use Rattle.c_copies.proofs.Filters.{Whole}
 
 -- f is the slice; N, M and I are the sizes as the code has them, and k where the estimate begins
 module _ (n m i : ℕ) (f : List Float) (W : Whole n m i (length f)) {N M I : Size} {k : ℕ} (en : N ≡ sizeOf n) (em : M ≡ sizeOf m) (ei : I ≡ sizeOf i) (ek : k ≡ estimatePlace n m i) where

@@ -1,14 +1,14 @@
 -- `is_parts` meets its contract: the filter, and each part.
 use native.Mathlib.Omega.{arith}
 use mathlib.Core.Path.{_≡_, sym, _∙_}
-use mathlib.Core.Bool.{Bool, _&&_}
+use mathlib.Core.Bool.{_&&_}
 use lib.Dec.{eqb}
 use Prim.Native.Nat.{_*_}
-use Rattle.c_filters.specs.Filter.{isFilter, isParts}
+use Rattle.c_copies.specs.Filter.{isParts}
 use borrow.Author.Needs.{needs}
-use Rattle.c_filters.proofs.Filters.{Few, whole-of, and-tested, and-failed}
-use Rattle.c_filters.proofs.is_parts.Statement.{statement}
-use Rattle.c_filters.proofs.is_parts.Tie as tie
+use Rattle.c_copies.proofs.Filters.{Few, whole-of, and-tested, and-failed}
+use Rattle.c_copies.proofs.is_parts.Statement.{statement}
+use Rattle.c_copies.proofs.is_parts.Tie as tie
 
 few : (c : tie.Then1) → let a = c .before .before .args in Few (a .n) (a .m) (a .i)
 few c = whole-of _ _ _ _ (sym (c .before .is-filter .ensures) ∙ c .if1 .taken) .few
