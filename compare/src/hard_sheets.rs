@@ -1,4 +1,4 @@
-//! Hard sheets for the depot sheet of document 01: edge cases first, the same on every run, then drawn ones. Sheet k of a
+//! Hard sheets for the depot sheet (README.md): edge cases first, the same on every run, then drawn ones. Sheet k of a
 //! seed depends on both alone.
 
 #[path = "generate/draw.rs"]

@@ -1,4 +1,4 @@
-//! The depot sheet of document 01 over the unchanged Rust: bytes in, bytes out. Reading and writing are ordinary code of
+//! The depot sheet (README.md) over the unchanged Rust: bytes in, bytes out. Reading and writing are ordinary code of
 //! this file's folder; the filter and the smoother are the Rust's.
 
 pub mod estimate;

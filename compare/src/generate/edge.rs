@@ -1,4 +1,4 @@
-//! The edge cases: the worked cases of document 01, matrix calls, predictions and updates at every size, each
+//! The edge cases: the worked cases of the requirements, matrix calls, predictions and updates at every size, each
 //! refusal at each place, smoothers of several sizes and rooms. The list is the same on every run.
 
 use crate::draw::{Draw, Style, LIMIT, SPECIAL};
@@ -17,7 +17,7 @@ const INFINITY: f64 = f64::INFINITY;
 /// All sizes, 1 to 4.
 const SIZES: std::ops::RangeInclusive<usize> = 1..=4;
 
-/// The worked cases of document 01 that these modules have.
+/// The worked cases of the requirements that these modules have.
 fn worked() -> Vec<Call> {
     let root = |x: f64| Call::new("sqrt").with(&[x]);
     let square = |op: &str, cells: &[f64]| {

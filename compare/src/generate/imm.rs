@@ -122,7 +122,7 @@ fn hard(draw: &mut Draw, sizes: [usize; 3]) -> Bank {
     }
 }
 
-/// The worked case of document 01, and each size; probabilities at EPSILON and beside it, and states whose spread
+/// The worked case of the requirements, and each size; probabilities at EPSILON and beside it, and states whose spread
 /// overflows.
 pub fn edges(draw: &mut Draw) -> Vec<Call> {
     let model = |x: f64| [vec![1.0], vec![x], vec![1.0], vec![1.0], vec![1.0]];

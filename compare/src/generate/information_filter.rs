@@ -95,7 +95,7 @@ pub fn call(draw: &mut Draw) -> Call {
     }
 }
 
-/// The worked case of document 01 and its neighbours, every size once, and each refusal.
+/// The worked case of the requirements and its neighbours, every size once, and each refusal.
 pub fn edges(draw: &mut Draw) -> Vec<Call> {
     let zeros = |r: f64| Model {
         n: 2,

@@ -1,11 +1,11 @@
-//! Small sheets whose answers were worked out by hand, document 01's first. Both sides are held against them.
+//! Small sheets whose answers were worked out by hand, the requirements' first. Both sides are held against them.
 
 /// A sheet, and what it prints.
 pub type Known = (&'static str, &'static str);
 
 #[rustfmt::skip]
 pub const KNOWN: [Known; 24] = [
-    // The worked sheet of document 01.
+    // The worked sheet (examples/sheets).
     ("       1    4288      32       2       2\n     300\n    1000\n       1     400\n       0       0\n",
      "       1     300       1\n       2     607       2\n"),
     // No reading at all: position and velocity stay 0.

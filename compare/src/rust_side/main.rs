@@ -1,4 +1,4 @@
-//! The driver over the Rust of docs/src, which it calls directly. The crate `oxictl` is that source,
+//! The driver over the unchanged Rust, which it calls directly. The crate `oxictl` is that source,
 //! byte for byte; `build` makes it.
 
 mod imm;
