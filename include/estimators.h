@@ -9,8 +9,9 @@
  * sizes have 64 bits on every machine, also where size_t has 32.
  *
  * What is told. A function that can refuse returns ESTIMATORS_OK or the first refusal that applies. Then nothing is
- * written, but for three functions, whose refusal can leave a changed filter: information_update, sqrt_kalman_predict and
- * sqrt_kalman_update, which say what they leave. A depot sheet's refusals are lines of its report, and not returned.
+ * written, but for three functions, whose refusal can leave a changed filter, and which say what they leave:
+ * information_update, sqrt_kalman_predict and sqrt_kalman_update.
+ * A depot sheet's refusals are lines of its report, and not returned.
  *
  * What the caller sees to, because no function can test it:
  *   - A slice is a pointer and then how many doubles (or bytes) it holds. No pointer is NULL, not even one with a length of
@@ -36,8 +37,11 @@
  * Threads: no function has state of its own, allocates, waits or keeps a pointer after it returned, so any number of
  * threads may call any of them on buffers of their own, or read one buffer together.
  *
- * Every call ends. Stack on x86-64, without what memcpy and memset use: sheet_report 31.5 KB, rts_smoother_smooth
- * 12.4 KB whatever its room, imm_mix_estimates 2.6 KB, every other function less than 2 KB (tools/stack lists them).
+ * Every call ends. Stack on x86-64, without what memcpy and memset use (tools/stack lists every function):
+ *   sheet_report                   31.5 KB
+ *   rts_smoother_smooth            12.4 KB, whatever its room
+ *   imm_mix_estimates               2.6 KB
+ *   every other function      less than 2 KB
  */
 #ifndef ESTIMATORS_H
 #define ESTIMATORS_H
