@@ -6,7 +6,7 @@
  *
  * Numbers are IEEE 754 doubles and may hold any bits. A matrix is its cells by rows, used sizes only: R x C is
  * R * C doubles. Sizes are 1 to ESTIMATORS_MAX_SIZE, a smoother's room is 1 to ESTIMATORS_MAX_SLOTS slots. Lengths and
- * sizes have 64 bits on every machine, also where size_t has 32.
+ * sizes have 64 bits on every machine, 32-bit ones among them.
  *
  * What is told. A function that can refuse returns ESTIMATORS_OK or the first refusal that applies. Then nothing is
  * written, but for three functions, whose refusal can leave a changed filter, and which say what they leave:
@@ -21,14 +21,14 @@
  *   - The floating-point environment is that of a program's start: round to nearest, subnormal numbers kept. No flush to
  *     zero, and nothing in the process that turns it on (such as linking with -ffast-math): with it even the root of
  *     2^-1074 is wrong.
- *   - A NaN or an infinity is a number like any other: a step takes it in, tells ESTIMATORS_OK, and from then on the filter
- *     holds NaNs. Test a sensor's reading with isfinite first.
+ *   - A NaN or an infinity is a number like any other: a step takes it in, tells ESTIMATORS_OK, and the filter may hold
+ *     NaNs from then on. Test a sensor's reading with isfinite first.
  *   - What is lent is not changed by anybody else during the call.
  *
  * How to
  *   - A reading that is missing: predict and no update. The slot for the smoother is stored as usual.
  *   - A model without an input: i = 1, with b and u zero.
- *   - A copy of a filter or of a bank is a copy of its numbers. One that was refused on the way stays as it was.
+ *   - A copy of a filter or of a bank is a copy of its numbers.
  *   - A filter from NaN back to numbers: the reset function of its kind.
  *   - A duty of more than 64 readings: smooth it in parts, the last first. For the part before it take its own slots and, as
  *     one slot more, the first slot of the part that was smoothed, with its smoothed pair for the filtered one. What is
