@@ -392,6 +392,8 @@ ESTIMATORS_TOLD rts_smoother_smooth(uint64_t n, uint64_t room, uint64_t count,
  * whole metres, its stage; or one line with the number of a refusal (3, 7, 8 or 9) and the line of the sheet. A sheet may have any
  * length and any bytes; what stands after its first 1,418 bytes plays no part.
  */
+#define ESTIMATORS_SHEET_STAGES 32   /* stages: 1 to 32 */
+#define ESTIMATORS_SHEET_READINGS 64 /* readings: 1 to 64 */
 #define ESTIMATORS_SHEET 1418  /* the bytes of a sheet that play a part: the longest has 1,417 */
 #define ESTIMATORS_REPORT 1600 /* the bytes of the longest report: 64 lines of 25 */
 
