@@ -9,9 +9,11 @@ ghost use Rattle.filtering.specs.Filter.{predictedState, propagated as propagat
 ghost use Rattle.steps.specs.Step.{wellSized, fitting, motionRows, predictRows, updateRows};
 use answer::Status;
 use matrix::VectorResult;
-use sizes::Size;
 use sizes::both;
 use sizes::number;
+
+pub mod four;
+pub mod road;
 
 // ---- the sizes of a filter, tested by one bool
 
@@ -62,6 +64,14 @@ pub fn propagated<'a>(
     ensures { λ v. ⌜ v ≡ pad (propagatedOf (count r) (count n) (part r n (now (a .entry))) (part n n (now (p .entry))) (part r r (now (q .entry)))) ⌝ }
 {
     let rows = number(r);
+    if number(n) == 4 {
+        if rows == 4 {
+            return four::propagated(a, p, q);
+        }
+        if rows == 2 {
+            return four::propagated_two(a, p, q);
+        }
+    }
     let mut out = [[0.0; 4]; 4];
     for i in 0..rows {
         let ap = rows::row_product(a[i], p, n);
@@ -96,6 +106,11 @@ pub fn gain<'a>(
     ensures { λ v. ⌜ v ≡ pad (gainOf (count n) (count m) (part n n (now (p .entry))) (part m n (now (h .entry))) (part m m (now (w .entry)))) ⌝ }
 {
     let rows = number(n);
+    if rows == 4 {
+        if number(m) == 2 {
+            return four::gain(p, h, w);
+        }
+    }
     let mut out = [[0.0; 4]; 4];
     for i in 0..rows {
         let pht = rows::row_product_transposed(p[i], h, n);
@@ -130,8 +145,13 @@ pub fn corrected_covariance<'a>(
     ensures { λ v. ⌜
         v ≡ pad (correctedCovariance (count n) (count m) (part n m (now (k .entry))) (part m n (now (h .entry))) (part n n (now (p .entry)))) ⌝ }
 {
-    let e = kernel::identity_rows();
     let rows = number(n);
+    if rows == 4 {
+        if number(m) == 2 {
+            return four::corrected_covariance(k, h, p);
+        }
+    }
+    let e = kernel::identity_rows();
     let mut out = [[0.0; 4]; 4];
     for i in 0..rows {
         let kh = rows::row_product(k[i], h, m);

@@ -1,50 +1,58 @@
--- `corrected_covariance` meets its contract: a loop over the rows, each made by itself.
+-- `corrected_covariance` meets its contract: four states and two measurements are written out; else a loop over the rows.
 use Prim.Native.Nat.{ℕ, _-_, _≤_, _<_}
 use native.Mathlib.Omega.{arith}
 use mathlib.Core.Path.{_≡_, sym, subst, _∙_}
 use Rattle.algebra.specs.Matrix.{row}
+use Rattle.algebra.specs.Array.{used, pad}
 use Rattle.algebra.proofs.Arrays.{Rows, rows-none, rows-more, rows-all}
 use Rattle.sizes.specs.Size.{count, part}
 use Rattle.sizes.proofs.Sizes.{bounds}
-use Rattle.rows.proofs.RowWise.{row-of-used, row-of-identity, row-of-difference, row-of-product, row-leading, rows-are}
+use Rattle.rows.proofs.RowWise.{rows-are}
 use Rattle.filtering.specs.Filter.{correctedCovariance}
 use Rattle.filtering.proofs.Shapes.{shape-correctedCovariance}
+use Rattle.steps.proofs.Parts.{corrected-row}
 use Rattle.steps.proofs.corrected_covariance.Statement.{statement}
 use Rattle.steps.proofs.corrected_covariance.Tie as tie
 
 abbrev Inv-loop : tie.InvT-loop
-Inv-loop k h p n m e rows out₀ i₀ out i = ((rows ≡ count n) × (rows ≤ 4)) × Rows (λ i. row (correctedCovariance (count n) (count m) (part n m k) (part m n h) (part n n p)) i) (count n) i out
+Inv-loop k h p n m rows e out₀ i₀ out i = ((rows ≡ count n) × (rows ≤ 4)) × Rows (λ i. row (correctedCovariance (count n) (count m) (part n m k) (part m n h) (part n n p)) i) (count n) i out
 
 abbrev μ-loop : tie.MeasureT-loop
-μ-loop k h p n m e rows out₀ i₀ out i = rows - i
+μ-loop k h p n m rows e out₀ i₀ out i = rows - i
 
 loop-holds : tie.Need-loop-holds Inv-loop μ-loop
 loop-holds c =
-    let e = c .number .ensures in
-    ((e, omega (arith, e, bounds (c .before .before .args .n))), rows-none _ _)
+    let e = c .before .before .number .ensures in
+    ((e, omega (arith, e, bounds (c .before .before .before .args .n))), rows-none _ _)
 
 loop-again : tie.Need-loop-again Inv-loop μ-loop
-unfolding correctedCovariance
 loop-again c =
     let rest = c .before .before in
     let kh = rest .before .before in
     let l = kh .before .before in
     let v = l .before .loop .inv in
-    let e = l .before .before .before in
-    let x = e .before .args in
-    let N = bounds (x .n) in
-    let M = bounds (x .m) in
+    let e = l .before .before in
+    let x = e .before .before .before .args in
     let h : l .before .loop .i < count (x .n) = subst (λ (k : ℕ). l .before .loop .i < k) (v .0 .0) (l .loop-test .taken) in
-    let right = row-of-product (row-of-used _ h M) N _ (kh .row-product .ensures) in
-    let left = row-of-difference (row-of-identity h N (e .identity-rows .ensures)) right (rest .row-difference .ensures) in
-    (v .0, rows-more (v .1) (N .most) h (c .leading .ensures ∙ row-leading (row-of-product left N _ (c .before .row-product2 .ensures))))
+    let made = corrected-row (x .n) (x .m) (x .k .now) (x .h .now) (x .p .now) _ h (e .identity-rows .ensures) (kh .row-product .ensures) (rest .row-difference .ensures) (c .before .row-product2 .ensures) (c .leading .ensures) in
+    (v .0, rows-more (v .1) (bounds (x .n) .most) h made)
 
+-- the sizes that are written out
 returns : tie.Need-returns Inv-loop μ-loop
-returns c = let v = c .before .loop .inv in rows-all (v .1) (omega (arith, v .0 .0)) (rows-are (shape-correctedCovariance _ _ _ _ _))
+returns c =
+    let m = c .before .before in
+    let n = m .before .before in
+    let x = n .before .args in
+    let r : 4 ≡ count (x .n) = sym (m .before .if1 .taken) ∙ n .number .ensures in
+    let s : 2 ≡ count (x .m) = sym (c .before .if2 .taken) ∙ m .number2 .ensures in
+    c .corrected-covariance .ensures ∙ λ k. pad (correctedCovariance (r k) (s k) (used (r k) (s k) (x .k .now)) (used (s k) (r k) (x .h .now)) (used (r k) (r k) (x .p .now)))
+
+returns-2 : tie.Need-returns-2 Inv-loop μ-loop
+returns-2 c = let v = c .before .loop .inv in rows-all (v .1) (omega (arith, v .0 .0)) (rows-are (shape-correctedCovariance _ _ _ _ _))
 
 pub corrected-covariance-spec : {M : Type 1} → statement M
 corrected-covariance-spec =
     tie.close
-    (tie.spec Inv-loop μ-loop (λ c κs. tt) (λ c κs. tt) loop-holds
+    (tie.spec Inv-loop μ-loop (λ c κs. tt) (λ c κs. tt) (λ c κs. tt) returns (λ c κs. tt) loop-holds
     (λ c. omega arith) (λ c. omega arith) (λ c κs. tt) (λ c. omega arith) (λ c. omega arith) (λ c κs. tt) (λ c κs. tt)
-    (λ c κs. tt) (λ c. omega arith) (λ c. omega arith) (λ c. omega arith) (λ c. omega arith) loop-again returns)
+    (λ c κs. tt) (λ c. omega arith) (λ c. omega arith) (λ c. omega arith) (λ c. omega arith) loop-again returns-2)

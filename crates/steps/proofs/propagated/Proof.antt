@@ -1,14 +1,16 @@
--- `propagated` meets its contract: a loop over the rows, each made by itself.
+-- `propagated` meets its contract: four states are written out; else a loop over the rows, each made by itself.
 use Prim.Native.Nat.{ℕ, _-_, _≤_, _<_}
 use native.Mathlib.Omega.{arith}
 use mathlib.Core.Path.{_≡_, sym, subst, _∙_}
 use Rattle.algebra.specs.Matrix.{row}
+use Rattle.algebra.specs.Array.{used, pad}
 use Rattle.algebra.proofs.Arrays.{Rows, rows-none, rows-more, rows-all}
 use Rattle.sizes.specs.Size.{count, part}
 use Rattle.sizes.proofs.Sizes.{bounds}
-use Rattle.rows.proofs.RowWise.{row-of-used, row-of-sum, row-of-product, row-of-product-transposed, row-leading, rows-are}
+use Rattle.rows.proofs.RowWise.{rows-are}
 use Rattle.filtering.specs.Filter.{propagated}
 use Rattle.filtering.proofs.Shapes.{shape-propagated}
+use Rattle.steps.proofs.Parts.{propagated-row}
 use Rattle.steps.proofs.propagated.Statement.{statement}
 use Rattle.steps.proofs.propagated.Tie as tie
 
@@ -20,30 +22,43 @@ abbrev μ-loop : tie.MeasureT-loop
 
 loop-holds : tie.Need-loop-holds Inv-loop μ-loop
 loop-holds c =
-    let e = c .number .ensures in
-    ((e, omega (arith, e, bounds (c .before .args .r))), rows-none _ _)
+    let e = c .before .before .number .ensures in
+    ((e, omega (arith, e, bounds (c .before .before .before .args .r))), rows-none _ _)
 
 loop-again : tie.Need-loop-again Inv-loop μ-loop
-unfolding propagated
 loop-again c =
     let apat = c .before .before .before in
     let ap = apat .before in
     let l = ap .before .before in
     let v = l .before .loop .inv in
-    let x = l .before .before .before .args in
-    let R = bounds (x .r) in
-    let N = bounds (x .n) in
+    let x = l .before .before .before .before .before .args in
     let h : l .before .loop .i < count (x .r) = subst (λ (k : ℕ). l .before .loop .i < k) (v .0 .0) (l .loop-test .taken) in
-    let left = row-of-product (row-of-used _ h N) N _ (ap .row-product .ensures) in
-    let both = row-of-product-transposed left R _ (apat .row-product-transposed .ensures) in
-    (v .0, rows-more (v .1) (R .most) h (c .leading .ensures ∙ row-leading (row-of-sum both (row-of-used _ h R) (c .before .row-sum .ensures))))
+    let made = propagated-row (x .r) (x .n) (x .a .now) (x .p .now) (x .q .now) h (ap .row-product .ensures) (apat .row-product-transposed .ensures) (c .before .row-sum .ensures) (c .leading .ensures) in
+    (v .0, rows-more (v .1) (bounds (x .r) .most) h made)
 
+-- the sizes that are written out
 returns : tie.Need-returns Inv-loop μ-loop
-returns c = let v = c .before .loop .inv in rows-all (v .1) (omega (arith, v .0 .0)) (rows-are (shape-propagated _ _ _ _ _))
+returns c =
+    let n = c .before .before .before in
+    let x = n .before .before .args in
+    let r : 4 ≡ count (x .r) = sym (c .before .if2 .taken) ∙ n .before .number .ensures in
+    let s : 4 ≡ count (x .n) = sym (c .before .before .if1 .taken) ∙ n .number2 .ensures in
+    c .propagated .ensures ∙ λ k. pad (propagated (r k) (s k) (used (r k) (s k) (x .a .now)) (used (s k) (s k) (x .p .now)) (used (r k) (r k) (x .q .now)))
+
+returns-2 : tie.Need-returns-2 Inv-loop μ-loop
+returns-2 c =
+    let n = c .before .before .before .before in
+    let x = n .before .before .args in
+    let r : 2 ≡ count (x .r) = sym (c .before .if3 .taken) ∙ n .before .number .ensures in
+    let s : 4 ≡ count (x .n) = sym (c .before .before .before .if1 .taken) ∙ n .number2 .ensures in
+    c .propagated-two .ensures ∙ λ k. pad (propagated (r k) (s k) (used (r k) (s k) (x .a .now)) (used (s k) (s k) (x .p .now)) (used (r k) (r k) (x .q .now)))
+
+returns-3 : tie.Need-returns-3 Inv-loop μ-loop
+returns-3 c = let v = c .before .loop .inv in rows-all (v .1) (omega (arith, v .0 .0)) (rows-are (shape-propagated _ _ _ _ _))
 
 pub propagated-spec : {M : Type 1} → statement M
 propagated-spec =
     tie.close
-    (tie.spec Inv-loop μ-loop (λ c κs. tt) loop-holds
+    (tie.spec Inv-loop μ-loop (λ c κs. tt) (λ c κs. tt) (λ c κs. tt) returns (λ c κs. tt) returns-2 loop-holds
     (λ c. omega arith) (λ c. omega arith) (λ c κs. tt) (λ c κs. tt) (λ c. omega arith) (λ c. omega arith) (λ c κs. tt)
-    (λ c κs. tt) (λ c. omega arith) (λ c. omega arith) (λ c. omega arith) (λ c. omega arith) loop-again returns)
+    (λ c κs. tt) (λ c. omega arith) (λ c. omega arith) (λ c. omega arith) (λ c. omega arith) loop-again returns-3)
