@@ -17,7 +17,7 @@ use Rattle.sheets.proofs.Counts.{Few, head-counts}
 use Rattle.sheet_reader.specs.Held.{noReading, readingHeld, headHeld, endsHeld, readingsHeld, sheetHeld}
 use Rattle.sheet_reader.specs.declared.Reading.{Reading}
 use Rattle.sheet_reader.specs.declared.SheetRead.{SheetRead}
-use Rattle.sheet_reader.specs.declared.parts.Head.{Head}
+use Rattle.sheet_reader.specs.declared.head.Head.{Head}
 use Rattle.sheet_reader.specs.declared.parts.Ends.{Ends}
 use Rattle.sheet_reader.specs.declared.parts.Readings.{Readings}
 

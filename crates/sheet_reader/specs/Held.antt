@@ -13,7 +13,7 @@ use Rattle.sheets.specs.Sheet.{Sheet, only, endOf, readingOf}
 use Rattle.sheet_text.specs.Held.{wholeOf}
 use Rattle.sheet_reader.specs.declared.Reading.{Reading}
 use Rattle.sheet_reader.specs.declared.SheetRead.{SheetRead}
-use Rattle.sheet_reader.specs.declared.parts.Head.{Head}
+use Rattle.sheet_reader.specs.declared.head.Head.{Head}
 use Rattle.sheet_reader.specs.declared.parts.Ends.{Ends}
 use Rattle.sheet_reader.specs.declared.parts.Readings.{Readings}
 

@@ -4,6 +4,7 @@ ghost use Rattle.sheets.specs.Sheet.{readSheet};
 ghost use Rattle.sheet_reader.specs.Held.{noSheet, sheetHeld};
 use sheet_text::Whole;
 
+mod head;
 mod lines;
 mod parts;
 
@@ -54,7 +55,7 @@ fn no_sheet(number: u32, line: u32) -> SheetRead
 pub fn read_sheet(s: &[u8]) -> SheetRead
     ensures { λ r. ⌜ r ≡ sheetHeld (readSheet (now (s .entry))) ⌝ }
 {
-    let h = parts::read_head(s);
+    let h = head::read_head(s);
     if h.number != 0 {
         return no_sheet(h.number, h.line);
     }

@@ -1,61 +1,113 @@
-// A line of a sheet: its form and its numbers. A place is asked to stand within the sheet, so these are for this crate alone.
+// A line of a sheet: its form and its numbers, each field read once. A place is asked to stand within the sheet, so these are for this
+// crate alone.
 ghost use mathlib.Core.Path.{_≡_};
+ghost use mathlib.Core.Bool.{true, false};
 ghost use Prim.Native.Nat.{_+_, _<_, _≤_};
-ghost use lib.ListN.{length, take, drop};
+ghost use lib.ListN.{length};
 ghost use Rattle.sheets.specs.Line.{fieldAt, form, isSome, orZero};
-ghost use Rattle.sheet_text.specs.Held.{fieldOf, wholeOf};
+ghost use Rattle.sheet_text.specs.Held.{wholeOf};
 use sheet_text::Field;
 use sheet_text::Whole;
 use sheet_text::read_field;
 
-// The eight bytes from `at` on.
-fn bytes_at(s: &[u8], at: usize) -> [u8; 8]
-    requires { ⌜ at + 8 ≤ length (now s) ⌝ }
-    ensures { λ r. ⌜ r ≡ take 8 (drop at (now (s .entry))) ⌝ }
-{
-    [
-        s[at],
-        s[at + 1],
-        s[at + 2],
-        s[at + 3],
-        s[at + 4],
-        s[at + 5],
-        s[at + 6],
-        s[at + 7],
-    ]
+// Whether a field, or a line of one, has its form, and its number.
+pub struct Number {
+    pub formed: bool,
+    pub value: Whole,
 }
 
-// The field that begins at `at`.
-fn field_at(s: &[u8], at: usize) -> Field
-    requires { ⌜ at + 8 ≤ length (now s) ⌝ }
-    ensures { λ r. ⌜ r ≡ fieldOf (fieldAt (now (s .entry)) at) ⌝ }
-{
-    let f = bytes_at(s, at);
-    read_field(f)
+// Whether a line of two fields has its form, and its numbers.
+pub struct Numbers {
+    pub formed: bool,
+    pub first: Whole,
+    pub second: Whole,
 }
 
-// Whether the field has its form.
-fn is_field(s: &[u8], at: usize) -> bool
+// The field that begins at `at`; its number is 0 where it has not its form.
+pub(crate) fn number_at(s: &[u8], at: usize) -> Number
     requires { ⌜ at + 8 ≤ length (now s) ⌝ }
-    ensures { λ r. ⌜ r ≡ isSome (fieldAt (now (s .entry)) at) ⌝ }
+    ensures { λ r. ⌜ (r .formed ≡ isSome (fieldAt (now (s .entry)) at)) × (r .value ≡ wholeOf (orZero (fieldAt (now (s .entry)) at))) ⌝ }
 {
-    match field_at(s, at) {
-        Field::Bad => false,
-        Field::Number(_) => true,
+    match read_field(s, at) {
+        Field::Bad => Number {
+            formed: false,
+            value: Whole {
+                below: false,
+                size: 0,
+            },
+        },
+        Field::Number(value) => Number {
+            formed: true,
+            value,
+        },
     }
 }
 
-// Its number, 0 where it has not its form.
-pub(crate) fn number_at(s: &[u8], at: usize) -> Whole
-    requires { ⌜ at + 8 ≤ length (now s) ⌝ }
-    ensures { λ r. ⌜ r ≡ wholeOf (orZero (fieldAt (now (s .entry)) at)) ⌝ }
+// The line of one field that begins at `at`.
+pub(crate) fn one_at(s: &[u8], at: usize) -> Number
+    requires { ⌜ at < 65536 ⌝ }
+    ensures { λ r. ⌜
+        (r .formed ≡ form 1 (now (s .entry)) at)
+        × (form 1 (now (s .entry)) at ≡ true → r .value ≡ wholeOf (orZero (fieldAt (now (s .entry)) at))) ⌝ }
 {
-    match field_at(s, at) {
-        Field::Bad => Whole {
+    let none = Number {
+        formed: false,
+        value: Whole {
             below: false,
             size: 0,
         },
-        Field::Number(w) => w,
+    };
+    if s.len() <= at + 8 {
+        return none;
+    }
+    if s[at + 8] != b'\n' {
+        return none;
+    }
+    number_at(s, at)
+}
+
+fn no_numbers() -> Numbers
+    ensures { λ r. ⌜ r .formed ≡ false ⌝ }
+{
+    Numbers {
+        formed: false,
+        first: Whole {
+            below: false,
+            size: 0,
+        },
+        second: Whole {
+            below: false,
+            size: 0,
+        },
+    }
+}
+
+// The line of two fields that begins at `at`.
+pub(crate) fn two_at(s: &[u8], at: usize) -> Numbers
+    requires { ⌜ at < 65536 ⌝ }
+    ensures { λ r. ⌜
+        (r .formed ≡ form 2 (now (s .entry)) at)
+        × (form 2 (now (s .entry)) at ≡ true → r .first ≡ wholeOf (orZero (fieldAt (now (s .entry)) at)))
+        × (form 2 (now (s .entry)) at ≡ true → r .second ≡ wholeOf (orZero (fieldAt (now (s .entry)) (at + 8)))) ⌝ }
+{
+    if s.len() <= at + 16 {
+        return no_numbers();
+    }
+    if s[at + 16] != b'\n' {
+        return no_numbers();
+    }
+    let a = number_at(s, at);
+    if !a.formed {
+        return no_numbers();
+    }
+    let b = number_at(s, at + 8);
+    let formed = b.formed;
+    let first = a.value;
+    let second = b.value;
+    Numbers {
+        formed,
+        first,
+        second,
     }
 }
 
@@ -73,7 +125,8 @@ pub(crate) fn has_form(s: &[u8], at: usize, k: usize) -> bool
     }
     let mut j: usize = 0;
     while j < k {
-        if !is_field(s, at + 8 * j) {
+        let field = number_at(s, at + 8 * j);
+        if !field.formed {
             return false;
         }
         j += 1;

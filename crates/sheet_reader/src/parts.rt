@@ -1,29 +1,18 @@
-// The three parts of a sheet, each read line by line: line 1, the stages' ends, the readings.
+// The stages' ends and the readings of a sheet, each read line by line.
 ghost use mathlib.Core.Path.{_≡_};
 ghost use Prim.Native.Nat.{_≤_};
-ghost use Rattle.sheets.specs.Sheet.{headInRange, readingInRange, readHead, readEnds};
-ghost use Rattle.sheets.specs.Sheet.{readingTest};
+ghost use Rattle.sheets.specs.Sheet.{readingInRange, readingTest, readEnds};
 ghost use Rattle.sheets.specs.Line.{readLines};
 ghost use mathlib.Core.List.{[]};
 ghost use Rattle.sheet_text.specs.Held.{numberOf};
-ghost use Rattle.sheet_reader.specs.Held.{noHead, noEnds, noReadings, headHeld, endsHeld, readingsHeld};
+ghost use Rattle.sheet_reader.specs.Held.{noEnds, noReadings, endsHeld, readingsHeld};
 use crate::Reading;
-use crate::lines::has_form;
-use crate::lines::number_at;
+use crate::lines::one_at;
+use crate::lines::two_at;
 use sheet_text::Whole;
 use sheet_text::in_range;
 
-// Line 1; in this and what follows `number` is a refusal's, on that line, or 0.
-pub struct Head {
-    pub number: u32,
-    pub line: u32,
-    pub step: u32,
-    pub process: u32,
-    pub measurement: u32,
-    pub stages: u32,
-    pub readings: u32,
-}
-
+// `number` is a refusal's, on that line, or 0.
 pub struct Ends {
     pub number: u32,
     pub line: u32,
@@ -34,63 +23,6 @@ pub struct Readings {
     pub number: u32,
     pub line: u32,
     pub readings: [Reading; 64],
-}
-
-fn is_head(step: Whole, process: Whole, measurement: Whole, stages: Whole, readings: Whole) -> bool
-    ensures { λ r. ⌜ r ≡ headInRange (numberOf step) (numberOf process) (numberOf measurement) (numberOf stages) (numberOf readings) ⌝ }
-{
-    if !in_range(step, 1, 99) {
-        return false;
-    }
-    if !in_range(process, 0, 9999) {
-        return false;
-    }
-    if !in_range(measurement, 1, 9999) {
-        return false;
-    }
-    if !in_range(stages, 1, 32) {
-        return false;
-    }
-    in_range(readings, 1, 64)
-}
-
-fn no_head(number: u32) -> Head
-    ensures { λ r. ⌜ r ≡ noHead number 1 ⌝ }
-{
-    Head {
-        number,
-        line: 1,
-        step: 0,
-        process: 0,
-        measurement: 0,
-        stages: 0,
-        readings: 0,
-    }
-}
-
-pub(crate) fn read_head(s: &[u8]) -> Head
-    ensures { λ r. ⌜ r ≡ headHeld (readHead (now (s .entry))) ⌝ }
-{
-    if !has_form(s, 0, 5) {
-        return no_head(7);
-    }
-    let a = number_at(s, 0);
-    let b = number_at(s, 8);
-    let c = number_at(s, 16);
-    let d = number_at(s, 24);
-    let e = number_at(s, 32);
-    if !is_head(a, b, c, d, e) {
-        return no_head(8);
-    }
-    Head {
-        number: 0,
-        line: 0,
-        step: a.size,
-        process: b.size,
-        measurement: c.size,
-        stages: d.size,
-        readings: e.size,
-    }
 }
 
 fn no_ends(number: u32, line: u32) -> Ends
@@ -113,10 +45,11 @@ pub(crate) fn read_ends(s: &[u8], n: usize) -> Ends
     let mut i: usize = 0;
     while i < n {
         let at = 41 + 9 * i;
-        if !has_form(s, at, 1) {
+        let line = one_at(s, at);
+        if !line.formed {
             return no_ends(7, 2 + (i as u32));
         }
-        let w = number_at(s, at);
+        let w = line.value;
         if !in_range(w, 1, 9999999) {
             return no_ends(8, 2 + (i as u32));
         }
@@ -182,11 +115,12 @@ pub(crate) fn read_readings(s: &[u8], first: u32, from: usize, n: usize) -> Read
     let mut i: usize = 0;
     while i < n {
         let at = from + 17 * i;
-        if !has_form(s, at, 2) {
+        let line = two_at(s, at);
+        if !line.formed {
             return no_readings(7, first + (i as u32));
         }
-        let kind = number_at(s, at);
-        let metres = number_at(s, at + 8);
+        let kind = line.first;
+        let metres = line.second;
         if !is_reading(kind, metres) {
             return no_readings(8, first + (i as u32));
         }

@@ -8,19 +8,32 @@ use native.Mathlib.Numerals.{add-one}
 use native.Mathlib.Omega.{arith}
 use lib.Dec.{leb}
 use lib.IntN.{ℤ, pos, negsuc, natAbs}
-use lib.ListN.{length, drop, getD, drop-of-length-le}
-use lib.Seq.{drop-cons}
+use lib.ListN.{length, take, drop, getD, length-drop, drop-of-length-le}
+use lib.Seq.{drop-cons, length-take-le, getD-take, getD-drop}
 use borrow.Author.Tests.{ne-eqb, lt-leb, le-leb}
 use Rattle.sheets.specs.Metres.{signed}
 use Rattle.sheets.specs.Field.{readField, readDigits, positive, negative, columns, writeField}
-use Rattle.sheets.specs.Line.{inRange}
-use Rattle.sheet_text.specs.Held.{Skipped, digitsOf, fieldOf, wholeOf, numberOf}
+use Rattle.sheets.specs.Line.{fieldAt, inRange}
+use Rattle.sheet_text.specs.Held.{Skipped, digitsOf, fieldIn, fieldOf, wholeOf, numberOf}
 use Rattle.sheet_text.specs.declared.Digits.{Digits}
 use Rattle.sheet_text.specs.declared.Digits.the-variants as Digits
 use Rattle.sheet_text.specs.declared.Field.{Field}
 use Rattle.sheet_text.specs.declared.Field.the-variants as Field
 
 -- ---- reading
+
+-- the eight bytes of a field, and each of them
+pub eight-long : (s : List ℕ) (at : ℕ) → at + 8 ≤ length s → length (take 8 (drop at s)) ≡ 8
+eight-long s at h = length-take-le 8 (drop at s) (rw (length-drop at s) (omega arith))
+
+pub eight-at : (s : List ℕ) (at i : ℕ) → i < 8 → getD (take 8 (drop at s)) i 0 ≡ getD s (at + i) 0
+eight-at s at i h = getD-take 8 (drop at s) i 0 h ∙ getD-drop at s i 0
+
+pub field-short : (s : List ℕ) (at : ℕ) → length s < at + 8 → fieldIn s at ≡ none
+field-short s at h = rw (lt-leb (at + 8) (length s) h)
+
+pub field-there : (s : List ℕ) (at : ℕ) → at + 8 ≤ length s → fieldIn s at ≡ fieldAt s at
+field-there s at h = rw (le-leb (at + 8) (length s) h)
 
 pub field-blank : (f : List ℕ) (i : ℕ) → Skipped f i → length f ≤ i → readField f ≡ none
 unfolding readField

@@ -1,11 +1,11 @@
-// The numbers of a depot sheet: a field of eight bytes read and written, by one table of powers of ten. Everything is by value,
-// and no public function asks anything of its caller.
+// The numbers of a depot sheet: a field of eight bytes read where it stands, and written by one table of powers of ten. No public
+// function asks anything of its caller.
 ghost use mathlib.Core.Path.{_≡_};
-ghost use Prim.Native.Nat.{_<_, _≤_, _^_};
-ghost use lib.ListN.{drop};
-ghost use Rattle.sheets.specs.Field.{readField, readDigits, reaches as reached, column as columnByte, columns, writeField};
+ghost use Prim.Native.Nat.{_+_, _<_, _≤_, _^_};
+ghost use lib.ListN.{length, take, drop};
+ghost use Rattle.sheets.specs.Field.{readDigits, reaches as reached, column as columnByte, columns, writeField};
 ghost use Rattle.sheets.specs.Line.{inRange};
-ghost use Rattle.sheet_text.specs.Held.{digitsOf, fieldOf, numberOf, Skipped};
+ghost use Rattle.sheet_text.specs.Held.{digitsOf, fieldIn, fieldOf, numberOf, Skipped};
 
 pub mod metres;
 
@@ -38,13 +38,14 @@ fn power(k: usize) -> u32
     POWERS[k]
 }
 
-// How many spaces a field starts with.
-fn spaces(f: [u8; 8]) -> usize
-    ensures { λ r. ⌜ Skipped f r ⌝ }
+// How many spaces the field at `at` starts with.
+fn spaces(s: &[u8], at: usize) -> usize
+    requires { ⌜ at + 8 ≤ length (now s) ⌝ }
+    ensures { λ r. ⌜ Skipped (take 8 (drop at (now (s .entry)))) r ⌝ }
 {
     let mut i: usize = 0;
     while i < 8 {
-        if f[i] != b' ' {
+        if s[at + i] != b' ' {
             return i;
         }
         i += 1;
@@ -52,15 +53,15 @@ fn spaces(f: [u8; 8]) -> usize
     i
 }
 
-// The number that the bytes from `from` to the field's end say.
-fn read_digits(f: [u8; 8], from: usize) -> Digits
-    requires { ⌜ from ≤ 8 ⌝ }
-    ensures { λ r. ⌜ r ≡ digitsOf (readDigits (drop from f)) ⌝ }
+// The number that the field's bytes from `from` on say.
+fn read_digits(s: &[u8], at: usize, from: usize) -> Digits
+    requires { ⌜ (at + 8 ≤ length (now s)) × (from ≤ 8) ⌝ }
+    ensures { λ r. ⌜ r ≡ digitsOf (readDigits (drop from (take 8 (drop at (now (s .entry)))))) ⌝ }
 {
     if from == 8 {
         return Digits::Bad;
     }
-    if f[from] == b'0' {
+    if s[at + from] == b'0' {
         if from != 7 {
             return Digits::Bad;
         }
@@ -68,29 +69,35 @@ fn read_digits(f: [u8; 8], from: usize) -> Digits
     let mut size: u32 = 0;
     let mut i = from;
     while i < 8 {
-        let b = f[i];
+        let b = s[at + i];
         if b < b'0' {
             return Digits::Bad;
         }
         if b'9' < b {
             return Digits::Bad;
         }
-        size += ((b - b'0') as u32) * power(7 - i);
+        size = 10 * size + ((b - b'0') as u32);
         i += 1;
     }
     Digits::Size(size)
 }
 
-// The number that a field says.
-pub fn read_field(f: [u8; 8]) -> Field
-    ensures { λ r. ⌜ r ≡ fieldOf (readField f) ⌝ }
+// The number that the eight bytes from `at` on say; where fewer stand, there is no field.
+pub fn read_field(s: &[u8], at: usize) -> Field
+    ensures { λ r. ⌜ r ≡ fieldOf (fieldIn (now (s .entry)) at) ⌝ }
 {
-    let i = spaces(f);
+    if s.len() < 8 {
+        return Field::Bad;
+    }
+    if s.len() - 8 < at {
+        return Field::Bad;
+    }
+    let i = spaces(s, at);
     if i == 8 {
         return Field::Bad;
     }
-    if f[i] == b'-' {
-        match read_digits(f, i + 1) {
+    if s[at + i] == b'-' {
+        match read_digits(s, at, i + 1) {
             Digits::Bad => Field::Bad,
             Digits::Size(size) => {
                 if size == 0 {
@@ -101,7 +108,7 @@ pub fn read_field(f: [u8; 8]) -> Field
             }
         }
     } else {
-        match read_digits(f, i) {
+        match read_digits(s, at, i) {
             Digits::Bad => Field::Bad,
             Digits::Size(size) => Field::Number(Whole { below: false, size }),
         }

@@ -31,15 +31,15 @@ loop-holds c =
 
 returns-3 : tie.Need-returns-3 Inv-loop μ-loop
 returns-3 c =
-    let a = c .before .before .before .before .before .before .before .before .args in
-    let l = c .before .before .before .loop in
-    sym (l .inv .2 ∙ fields-bad (a .k) (l .j) (a .at) (now (a .s)) (omega arith) (sym (c .before .is-field .ensures) ∙ not-true _ (c .if3 .taken)))
+    let a = c .before .before .before .before .before .before .before .before .before .args in
+    let l = c .before .before .before .before .loop in
+    sym (l .inv .2 ∙ fields-bad (a .k) (l .j) (a .at) (now (a .s)) (omega arith) (sym (c .before .before .number-at .ensures .0) ∙ not-true _ (c .if3 .taken)))
 
 loop-again : tie.Need-loop-again Inv-loop μ-loop
 loop-again c =
-    let a = c .before .before .before .before .before .before .before .before .args in
-    let l = c .before .before .before .loop in
-    (omega arith, omega arith, l .inv .2 ∙ fields-step (a .k) (l .j) (a .at) (now (a .s)) (omega arith) (sym (c .before .is-field .ensures) ∙ not-false _ (c .if3 .left)))
+    let a = c .before .before .before .before .before .before .before .before .before .args in
+    let l = c .before .before .before .before .loop in
+    (omega arith, omega arith, l .inv .2 ∙ fields-step (a .k) (l .j) (a .at) (now (a .s)) (omega arith) (sym (c .before .before .number-at .ensures .0) ∙ not-false _ (c .if3 .left)))
 
 returns-4 : tie.Need-returns-4 Inv-loop μ-loop
 returns-4 c =
@@ -56,14 +56,14 @@ add-end c = omega arith
 shared-slice-read-if2 : tie.Need-shared-slice-read-if2 Inv-loop μ-loop
 shared-slice-read-if2 c = omega arith
 
-mul-is-field : tie.Need-mul-is-field Inv-loop μ-loop
-mul-is-field c = omega arith
+mul-number-at : tie.Need-mul-number-at Inv-loop μ-loop
+mul-number-at c = omega arith
 
-add-is-field : tie.Need-add-is-field Inv-loop μ-loop
-add-is-field c = omega arith
+add-number-at : tie.Need-add-number-at Inv-loop μ-loop
+add-number-at c = omega arith
 
-is-field-requires : tie.Need-is-field-requires Inv-loop μ-loop
-is-field-requires c κs = omega arith
+number-at-requires : tie.Need-number-at-requires Inv-loop μ-loop
+number-at-requires c κs = omega arith
 
 add-j : tie.Need-add-j Inv-loop μ-loop
 add-j c = omega arith
@@ -83,9 +83,9 @@ has-form-spec =
     shared-slice-read-if2
     returns-2
     loop-holds
-    mul-is-field
-    add-is-field
-    is-field-requires
+    mul-number-at
+    add-number-at
+    number-at-requires
     returns-3
     add-j
     loop-less

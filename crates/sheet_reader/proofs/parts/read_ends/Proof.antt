@@ -1,11 +1,12 @@
 -- The ends are read line by line, each above the one before.
 use mathlib.Core.Path.{_≡_, refl, sym, _∙_}
-use Prim.Native.Nat.{_+_, _-_, _*_, _≤_, _<_}
+use mathlib.Core.Bool.{true}
+use Prim.Native.Nat.{_+_, _-_, _*_, _≤_}
 use native.Mathlib.Omega.{arith}
 use lib.ListN.{length, length-set}
 use denote.Ref.{now}
 use borrow.Author.Tests.{not-true, not-false}
-use Rattle.sheets.proofs.Lines.{form-length}
+use Rattle.sheets.specs.Line.{form}
 use Rattle.sheet_reader.proofs.EndLines.{Rest, ends-start, ends-bad, ends-out, ends-low, ends-step, ends-end}
 use Rattle.sheet_reader.proofs.parts.read_ends.Statement.{statement}
 use Rattle.sheet_reader.proofs.parts.read_ends.Tie as tie
@@ -21,43 +22,51 @@ loop-holds c = (omega arith, c .before .pre, refl, ends-start _ _)
 
 returns : tie.Need-returns Inv-loop μ-loop
 returns c =
-    let a = c .before .before .before .before .before .before .args in
-    let l = c .before .before .before .before .loop in
+    let o = c .before .before .before in
+    let l = o .before .before .loop in
+    let a = o .before .before .before .before .args in
     c .no-ends .ensures
-    ∙ sym (ends-bad (now (a .s)) (a .n) (l .e) (l .before) (l .i) (l .inv .3) (c .before .before .before .loop-test .taken) (sym (c .before .before .has-form .ensures) ∙ not-true _ (c .before .if1 .taken)))
+    ∙ sym (ends-bad (now (a .s)) (a .n) (l .e) (l .before) (l .i) (l .inv .3) (o .before .loop-test .taken) (sym (o .one-at .ensures .0) ∙ not-true _ (c .before .if1 .taken)))
 
-number-at-requires : tie.Need-number-at-requires Inv-loop μ-loop
-number-at-requires c κs =
-    let s = now (c .before .before .before .before .before .args .s) in
-    let i = c .before .before .before .loop .i in
-    let h : 41 + 9 * i + 8 * 1 < length s = form-length 1 (41 + 9 * i) s (sym (c .before .has-form .ensures) ∙ not-false _ (c .if1 .left)) in
-    omega arith
+-- the line has its form
+formed : (c : tie.Else1 Inv-loop μ-loop)
+    → form 1 (now (c .before .before .before .before .before .before .args .s)) (41 + 9 * c .before .before .before .before .loop .i) ≡ true
+formed c = sym (c .before .before .one-at .ensures .0) ∙ not-false _ (c .if1 .left)
 
 returns-2 : tie.Need-returns-2 Inv-loop μ-loop
 returns-2 c =
-    let a = c .before .before .before .before .before .before .before .before .before .args in
-    let l = c .before .before .before .before .before .before .before .loop in
+    let g = c .before .before .before .before in
+    let o = g .before .before in
+    let l = o .before .before .loop in
+    let a = o .before .before .before .before .args in
+    let r = c .before .before .in-range in
     c .no-ends2 .ensures
-    ∙ sym (ends-out (now (a .s)) (a .n) (l .e) (l .before) (l .i) (l .inv .3) (c .before .before .before .number-at .result) (c .before .before .before .number-at .ensures) (c .before .before .before .before .before .before .loop-test .taken)
-    (sym (c .before .before .before .before .before .has-form .ensures) ∙ not-false _ (c .before .before .before .before .if1 .left)) (c .before .before .in-range .result) (c .before .before .in-range .ensures) (not-true _ (c .before .if2 .taken)))
+    ∙ sym (ends-out (now (a .s)) (a .n) (l .e) (l .before) (l .i) (l .inv .3) (o .one-at .result .value) (o .one-at .ensures .1 (formed g)) (o .before .loop-test .taken)
+    (formed g) (r .result) (r .ensures) (not-true _ (c .before .if2 .taken)))
 
 returns-3 : tie.Need-returns-3 Inv-loop μ-loop
 returns-3 c =
-    let a = c .before .before .before .before .before .before .before .before .before .before .before .args in
-    let l = c .before .before .before .before .before .before .before .before .before .loop in
+    let g = c .before .before .before .before .before .before in
+    let o = g .before .before in
+    let l = o .before .before .loop in
+    let a = o .before .before .before .before .args in
+    let r = c .before .before .before .before .in-range in
     c .no-ends3 .ensures
-    ∙ sym (ends-low (now (a .s)) (a .n) (l .e) (l .before) (l .i) (l .inv .3) (c .before .before .before .before .before .number-at .result) (c .before .before .before .before .before .number-at .ensures) (c .before .before .before .before .before .before .before .before .loop-test .taken)
-    (sym (c .before .before .before .before .before .before .before .has-form .ensures) ∙ not-false _ (c .before .before .before .before .before .before .if1 .left)) (c .before .before .before .before .in-range .result) (c .before .before .before .before .in-range .ensures) (not-false _ (c .before .before .before .if2 .left)) (c .before .if3 .taken))
+    ∙ sym (ends-low (now (a .s)) (a .n) (l .e) (l .before) (l .i) (l .inv .3) (o .one-at .result .value) (o .one-at .ensures .1 (formed g)) (o .before .loop-test .taken)
+    (formed g) (r .result) (r .ensures) (not-false _ (c .before .before .before .if2 .left)) (c .before .if3 .taken))
 
 loop-again : tie.Need-loop-again Inv-loop μ-loop
 loop-again c =
-    let a = c .before .before .before .before .before .before .before .before .before .before .args in
-    let l = c .before .before .before .before .before .before .before .before .loop in (
+    let g = c .before .before .before .before .before in
+    let o = g .before .before in
+    let l = o .before .before .loop in
+    let a = o .before .before .before .before .args in
+    let r = c .before .before .before .in-range in (
       omega arith,
       l .inv .1,
       simp length-set (l .inv .2),
-      ends-step (now (a .s)) (a .n) (l .e) (l .before) (l .i) (l .inv .3) (c .before .before .before .before .number-at .result) (c .before .before .before .before .number-at .ensures) (c .before .before .before .before .before .before .before .loop-test .taken)
-          (sym (c .before .before .before .before .before .before .has-form .ensures) ∙ not-false _ (c .before .before .before .before .before .if1 .left)) (c .before .before .before .in-range .result) (c .before .before .before .in-range .ensures) (not-false _ (c .before .before .if2 .left)) (c .if3 .left),
+      ends-step (now (a .s)) (a .n) (l .e) (l .before) (l .i) (l .inv .3) (o .one-at .result .value) (o .one-at .ensures .1 (formed g)) (o .before .loop-test .taken)
+          (formed g) (r .result) (r .ensures) (not-false _ (c .before .before .if2 .left)) (c .if3 .left),
     )
 
 returns-4 : tie.Need-returns-4 Inv-loop μ-loop
@@ -72,8 +81,8 @@ mul-at c = omega arith
 add-at : tie.Need-add-at Inv-loop μ-loop
 add-at c = omega arith
 
-has-form-requires : tie.Need-has-form-requires Inv-loop μ-loop
-has-form-requires c κs = omega arith
+one-at-requires : tie.Need-one-at-requires Inv-loop μ-loop
+one-at-requires c κs = omega arith
 
 cast-no-ends : tie.Need-cast-no-ends Inv-loop μ-loop
 cast-no-ends c = omega arith
@@ -126,12 +135,11 @@ read-ends-spec =
     loop-holds
     mul-at
     add-at
-    has-form-requires
+    one-at-requires
     cast-no-ends
     add-no-ends
     no-ends-requires
     returns
-    number-at-requires
     in-range-requires
     cast-no-ends-2
     add-no-ends-2

@@ -1,11 +1,12 @@
 -- The readings are read line by line.
 use mathlib.Core.Path.{_≡_, refl, sym, _∙_}
+use mathlib.Core.Bool.{true}
 use Prim.Native.Nat.{_+_, _-_, _*_, _≤_}
 use native.Mathlib.Omega.{arith}
 use lib.ListN.{length, length-set}
 use denote.Ref.{now}
 use borrow.Author.Tests.{not-true, not-false}
-use Rattle.sheets.proofs.Lines.{form-length}
+use Rattle.sheets.specs.Line.{form}
 use Rattle.sheet_reader.proofs.ReadingLines.{Left, left-start, left-bad, left-out, left-step, left-end}
 use Rattle.sheet_reader.proofs.parts.read_readings.Statement.{statement}
 use Rattle.sheet_reader.proofs.parts.read_readings.Tie as tie
@@ -21,37 +22,41 @@ loop-holds c = (omega arith, refl, left-start _ _ _ _)
 
 returns : tie.Need-returns Inv-loop μ-loop
 returns c =
-    let a = c .before .before .before .before .before .before .args in
-    let l = c .before .before .before .before .loop in
+    let o = c .before .before .before in
+    let l = o .before .before .loop in
+    let a = o .before .before .before .before .args in
     c .no-readings .ensures
-    ∙ sym (left-bad (now (a .s)) (a .n) (a .first) (a .from) (l .e) (l .i) (l .inv .2) (c .before .before .before .loop-test .taken) (sym (c .before .before .has-form .ensures) ∙ not-true _ (c .before .if1 .taken)))
+    ∙ sym (left-bad (now (a .s)) (a .n) (a .first) (a .from) (l .e) (l .i) (l .inv .2) (o .before .loop-test .taken) (sym (o .two-at .ensures .0) ∙ not-true _ (c .before .if1 .taken)))
 
-number-at-requires : tie.Need-number-at-requires Inv-loop μ-loop
-number-at-requires c κs =
-    omega (arith, form-length 2 (c .before .before .before .before .before .args .from + 17 * c .before .before .before .loop .i) (now (c .before .before .before .before .before .args .s)) (sym (c .before .has-form .ensures) ∙ not-false _ (c .if1 .left)))
-
-number-at-requires-2 : tie.Need-number-at-requires-2 Inv-loop μ-loop
-number-at-requires-2 c κs =
-    omega (arith, form-length 2 (c .before .before .before .before .before .before .args .from + 17 * c .before .before .before .before .loop .i) (now (c .before .before .before .before .before .before .args .s)) (sym (c .before .before .has-form .ensures) ∙ not-false _ (c .before .if1 .left)))
+-- the line has its form
+formed : (c : tie.Else1 Inv-loop μ-loop)
+    → let a = c .before .before .before .before .before .before .args in form 2 (now (a .s)) (a .from + 17 * c .before .before .before .before .loop .i) ≡ true
+formed c = sym (c .before .before .two-at .ensures .0) ∙ not-false _ (c .if1 .left)
 
 returns-2 : tie.Need-returns-2 Inv-loop μ-loop
 returns-2 c =
-    let a = c .before .before .before .before .before .before .before .before .before .before .args in
-    let l = c .before .before .before .before .before .before .before .before .loop in
+    let g = c .before .before .before .before .before in
+    let o = g .before .before in
+    let l = o .before .before .loop in
+    let a = o .before .before .before .before .args in
+    let t = o .two-at in
+    let r = c .before .before .is-reading in
     c .no-readings2 .ensures
-    ∙ sym (left-out (now (a .s)) (a .n) (a .first) (a .from) (l .e) (l .i) (l .inv .2) (c .before .before .before .before .number-at .result) (c .before .before .before .number-at2 .result) (c .before .before .before .before .before .before .before .loop-test .taken)
-    (sym (c .before .before .before .before .before .before .has-form .ensures) ∙ not-false _ (c .before .before .before .before .before .if1 .left)) (c .before .before .before .before .number-at .ensures) (c .before .before .before .number-at2 .ensures)
-    (c .before .before .is-reading .result) (c .before .before .is-reading .ensures) (not-true _ (c .before .if2 .taken)))
+    ∙ sym (left-out (now (a .s)) (a .n) (a .first) (a .from) (l .e) (l .i) (l .inv .2) (t .result .first) (t .result .second) (o .before .loop-test .taken)
+    (formed g) (t .ensures .1 (formed g)) (t .ensures .2 (formed g)) (r .result) (r .ensures) (not-true _ (c .before .if2 .taken)))
 
 loop-again : tie.Need-loop-again Inv-loop μ-loop
 loop-again c =
-    let a = c .before .before .before .before .before .before .before .before .before .before .args in
-    let l = c .before .before .before .before .before .before .before .before .loop in (
+    let g = c .before .before .before .before .before in
+    let o = g .before .before in
+    let l = o .before .before .loop in
+    let a = o .before .before .before .before .args in
+    let t = o .two-at in
+    let r = c .before .before .is-reading in (
       omega arith,
       simp length-set (l .inv .1),
-      left-step (now (a .s)) (a .n) (a .first) (a .from) (l .e) (l .i) (l .inv .2) (c .before .before .before .before .number-at .result) (c .before .before .before .number-at2 .result) (c .before .before .before .before .before .before .before .loop-test .taken)
-          (sym (c .before .before .before .before .before .before .has-form .ensures) ∙ not-false _ (c .before .before .before .before .before .if1 .left)) (c .before .before .before .before .number-at .ensures) (c .before .before .before .number-at2 .ensures)
-          (c .before .before .is-reading .result) (c .before .before .is-reading .ensures) (not-false _ (c .before .if2 .left)) (c .in-range .result) (c .in-range .ensures),
+      left-step (now (a .s)) (a .n) (a .first) (a .from) (l .e) (l .i) (l .inv .2) (t .result .first) (t .result .second) (o .before .loop-test .taken)
+          (formed g) (t .ensures .1 (formed g)) (t .ensures .2 (formed g)) (r .result) (r .ensures) (not-false _ (c .before .if2 .left)) (c .in-range .result) (c .in-range .ensures),
     )
 
 returns-3 : tie.Need-returns-3 Inv-loop μ-loop
@@ -66,8 +71,8 @@ mul-at c = omega arith
 add-at : tie.Need-add-at Inv-loop μ-loop
 add-at c = omega arith
 
-has-form-requires : tie.Need-has-form-requires Inv-loop μ-loop
-has-form-requires c κs = omega arith
+two-at-requires : tie.Need-two-at-requires Inv-loop μ-loop
+two-at-requires c κs = omega arith
 
 cast-no-readings : tie.Need-cast-no-readings Inv-loop μ-loop
 cast-no-readings c = omega arith
@@ -77,9 +82,6 @@ add-no-readings c = omega arith
 
 no-readings-requires : tie.Need-no-readings-requires Inv-loop μ-loop
 no-readings-requires c κs = omega arith
-
-add-number-at : tie.Need-add-number-at Inv-loop μ-loop
-add-number-at c = omega arith
 
 is-reading-requires : tie.Need-is-reading-requires Inv-loop μ-loop
 is-reading-requires c κs = omega arith
@@ -117,14 +119,11 @@ read-readings-spec =
     loop-holds
     mul-at
     add-at
-    has-form-requires
+    two-at-requires
     cast-no-readings
     add-no-readings
     no-readings-requires
     returns
-    number-at-requires
-    add-number-at
-    number-at-requires-2
     is-reading-requires
     cast-no-readings-2
     add-no-readings-2

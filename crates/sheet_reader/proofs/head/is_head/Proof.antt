@@ -2,8 +2,8 @@
 use mathlib.Core.Path.{sym, _∙_}
 use borrow.Author.Tests.{not-true, not-false}
 use borrow.Author.Needs.{needs}
-use Rattle.sheet_reader.proofs.parts.is_head.Statement.{statement}
-use Rattle.sheet_reader.proofs.parts.is_head.Tie as tie
+use Rattle.sheet_reader.proofs.head.is_head.Statement.{statement}
+use Rattle.sheet_reader.proofs.head.is_head.Tie as tie
 
 returns : tie.Need-returns
 returns c = rw (sym (c .before .in-range .ensures) ∙ not-true _ (c .if1 .taken))
