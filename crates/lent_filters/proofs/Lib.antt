@@ -1,0 +1,5 @@
+pub mod Answers
+pub mod LinearShapes
+pub mod InformationShapes
+pub mod SquareRootShapes
+pub mod BankShapes
