@@ -51,9 +51,12 @@ estimateAt n m i f = let L = filterParts n m i in estimate (vectorAt n f (estima
 abbrev pub roadIn : List Float → Filter
 roadIn f = record { motion = motionAt 2 1 1 f; sensor = sensorAt 2 1 1 f; start = estimateAt 2 1 1 f }
 
--- the slice with another estimate; its model stays as it stands
+-- an estimate's numbers; and the slice with another estimate, whose model stays as it stands
+abbrev pub estimateNumbers : Estimate → List Float
+estimateNumbers e = e .state ++ joined (e .covariance)
+
 abbrev pub withEstimate : ℕ → ℕ → ℕ → List Float → Estimate → List Float
-withEstimate n m i f e = placed (estimatePlace n m i) (e .state ++ joined (e .covariance)) f
+withEstimate n m i f e = placed (estimatePlace n m i) (estimateNumbers e) f
 
 -- ---- the steps: 1 where a size does not fit, else the filter's own outcome; what is told is a number
 abbrev pub predictedIn : ℕ → ℕ → ℕ → List Float → Outcome Estimate (Unit {0}) → ℕ × List Float

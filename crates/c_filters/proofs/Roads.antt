@@ -1,7 +1,7 @@
 -- One road in a slice of 19 numbers: what its test says, and that a step by its numbers is the step on the slice. Assumes nothing.
 use mathlib.Core.Path.{_≡_, refl, sym, ap, ap₂, _∙_}
 use mathlib.Core.List.{List, [], _∷_}
-use mathlib.Core.Bool.{Bool, true, _&&_}
+use mathlib.Core.Bool.{Bool, true, cond, _&&_}
 use Prim.Native.Nat.{ℕ}
 use native.Mathlib.Omega.{arith}
 use lib.Dec.{eqb}
@@ -12,6 +12,7 @@ use Rattle.answer.specs.Answer.{Answer, refused, answered}
 use Rattle.answer.specs.Outcome.{Outcome, done, if-fitting}
 use Rattle.answer.proofs.Choice.{and-left, and-right}
 use Rattle.answer.proofs.Answers.{differ}
+use Rattle.scalar.specs.Number.{+0}
 use Rattle.algebra.specs.Matrix.{Vector, at}
 use Rattle.matrix.specs.declared.ScalarResult.{ScalarResult}
 use Rattle.matrix.specs.declared.ScalarResult.the-variants as Scalar
@@ -20,10 +21,13 @@ use Rattle.matrix.proofs.Results.{answered-value, refused-number}
 use Rattle.filtering.specs.Filter.{Estimate}
 use Rattle.filtering.specs.Linear.{predict, update}
 use Rattle.filtering.proofs.Shapes.{Way, stopped, went, way}
+use Rattle.layout.specs.Layout.{putAt}
 use Rattle.layout.proofs.Rows.{whole-vector}
+use Rattle.layout.proofs.Calls.{slice-put}
 use Rattle.steps.specs.Step.{wellSized}
-use Rattle.road.specs.Road.{Filter, updatedOf}
-use Rattle.c_copies.specs.Filter.{isFilter, isStep, isStepWith, isRoad, motionAt, sensorAt, estimateAt, roadIn, withEstimate, predictedIn, predictIn, outcomeIn, updateIn}
+use Rattle.road.specs.declared.Pair.{Pair}
+use Rattle.road.specs.Road.{Filter, estimateOf, trackerOf, updatedOf}
+use Rattle.c_copies.specs.Filter.{isFilter, isStep, isStepWith, isRoad, motionAt, sensorAt, estimateAt, roadIn, estimateNumbers, withEstimate, predictedIn, predictIn, outcomeIn, updateIn}
 
 pub record Road (n m i k j : ℕ) : Type 0 where
   pub states : n ≡ 2
@@ -45,6 +49,13 @@ road-of n m i k j e =
       long = eqb-true k 19 (and-left _ _ l);
       one = eqb-true j 1 (and-right (eqb k 19) _ l);
     }
+
+-- what is read of its slice, and put into it
+pub road-read : (f : List Float) {F : Filter} → length f ≡ 19 → F ≡ cond (eqb (length f) 19) (roadIn f) (trackerOf +0 +0 +0) → F ≡ roadIn f
+road-read f l e = e ∙ ap (λ (b : Bool). cond b (roadIn f) (trackerOf +0 +0 +0)) (eq-eqb (length f) 19 l)
+
+pub pair-put : (f : List Float) {g : List Float} (e : Pair) → length f ≡ 19 → g ≡ putAt 13 (estimateNumbers (estimateOf e)) f → g ≡ withEstimate 2 1 1 f (estimateOf e)
+pair-put f e l p = slice-put 13 f (estimateNumbers (estimateOf e)) (omega (arith, l)) p
 
 -- the tests of the sizes are passed
 step-passed : {k j : ℕ} → k ≡ 19 → j ≡ 1 → isStep 2 1 1 k 1 j ≡ true

@@ -2,10 +2,14 @@
 // and p by rows, one after another. A step reads the parts that it needs as rows, once, and writes x and p back, once. Refused
 // with 1: a size, or a slice of another length. The calls that copy: crates/c_copies.
 ghost use mathlib.Core.Path.{_≡_};
+ghost use mathlib.Core.Bool.{cond};
+ghost use lib.Dec.{eqb};
 ghost use lib.ListN.{length};
+ghost use Rattle.scalar.specs.Number.{+0};
 ghost use Rattle.answer.specs.Told.{given};
-ghost use Rattle.road.specs.Road.{roadOf, estimateOf};
-ghost use Rattle.c_copies.specs.Filter.{isRoad, roadIn, withEstimate, predictIn, updateIn, filterNumbers, trackerIn};
+ghost use Rattle.road.specs.Road.{roadOf, estimateOf, trackerOf};
+ghost use Rattle.layout.specs.Layout.{putAt};
+ghost use Rattle.c_copies.specs.Filter.{isRoad, roadIn, estimateNumbers, predictIn, updateIn, filterNumbers, trackerIn};
 use answer::Status;
 use c_copies::is_step;
 use matrix::ScalarResult;
@@ -82,14 +86,14 @@ fn update_rows(
 // ---- one road: two states, one measurement and one input, 19 numbers, read where they stand
 
 // The sizes of a road, with len numbers of the filter and k beside it.
-fn is_road(n: usize, m: usize, i: usize, len: usize, k: usize) -> bool
+pub fn is_road(n: usize, m: usize, i: usize, len: usize, k: usize) -> bool
     ensures { λ t. ⌜ t ≡ isRoad n m i len k ⌝ }
 {
     let sizes = both(n == 2, both(m == 1, i == 1));
     both(sizes, both(len == 19, k == 1))
 }
 
-fn road_at(f: &[f64]) -> Road
+fn whole_road(f: &[f64]) -> Road
     requires { ⌜ length (now f) ≡ 19 ⌝ }
     ensures { λ r. ⌜ roadOf r ≡ roadIn (now (f .entry)) ⌝ }
 {
@@ -128,10 +132,20 @@ fn road_at(f: &[f64]) -> Road
     }
 }
 
-// The pair into its place.
-fn put_road(f: &mut [f64], e: Pair)
-    requires { ⌜ length (now f) ≡ 19 ⌝ }
-    ensures { λ u. ⌜ now (f .exit) ≡ withEstimate 2 1 1 (now (f .entry)) (estimateOf e) ⌝ }
+// The road in a slice of 19 numbers; in any other, one that stands still.
+pub fn road_at(f: &[f64]) -> Road
+    ensures { λ r. ⌜ roadOf r ≡ cond (eqb (length (now (f .entry))) 19) (roadIn (now (f .entry))) (trackerOf +0 +0 +0) ⌝ }
+{
+    if f.len() == 19 {
+        whole_road(f)
+    } else {
+        road::position_velocity(0.0, 0.0, 0.0)
+    }
+}
+
+// The pair into its place, where there is room.
+pub fn put_road(f: &mut [f64], e: Pair)
+    ensures { λ u. ⌜ now (f .exit) ≡ putAt 13 (estimateNumbers (estimateOf e)) (now (f .entry)) ⌝ }
 {
     let p = e.p;
     let numbers = [e.x0, e.x1, p.a, p.b, p.c, p.d];

@@ -3,7 +3,7 @@ use native.Mathlib.Omega.{arith}
 use mathlib.Core.Path.{sym, _∙_}
 use lib.ListN.{length}
 use borrow.Author.Needs.{needs}
-use Rattle.c_filters.proofs.Roads.{Road, road-of, predicts}
+use Rattle.c_filters.proofs.Roads.{Road, road-of, road-read, pair-put, predicts}
 use Rattle.c_filters.proofs.kalman_predict.Statement.{statement}
 use Rattle.c_filters.proofs.kalman_predict.Tie as tie
 
@@ -17,12 +17,12 @@ returns c =
     let f = step .before .before in
     let t = f .before .before in
     let a = t .before .before .before .before .args in
-    predicts (a .filter .now) (a .u .now) (road t) (f .road-at .ensures) (step .predict .ensures) (put .put-road .ensures)
+    predicts (a .filter .now) (a .u .now) (road t) (road-read (a .filter .now) (road t .long) (f .road-at .ensures)) (step .predict .ensures) (pair-put (a .filter .now) (step .predict .result) (road t .long) (put .put-road .ensures))
 
 pub kalman-predict-spec : {M : Type 1} → statement M
 kalman-predict-spec =
     tie.close
-    (tie.spec (λ c κs. search needs) (λ c κs. road (c .before) .long)
+    (tie.spec (λ c κs. search needs) (λ c κs. search needs)
     (λ c. omega (arith, road (c .before .before .before) .one)) (λ c κs. search needs)
-    (λ c κs. road (c .before .before .before .before .before) .long) (λ c. search needs) returns
+    (λ c κs. search needs) (λ c. search needs) returns
     (λ c κs. search needs) (λ c. search needs) (λ c. search needs))

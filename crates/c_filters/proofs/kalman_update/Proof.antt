@@ -10,7 +10,7 @@ use Rattle.road.specs.Road.{estimateOf}
 use Rattle.road.proofs.Roads.{corrected-by}
 use Rattle.c_copies.specs.Filter.{isRoad}
 use borrow.Author.Needs.{needs}
-use Rattle.c_filters.proofs.Roads.{Road, road-of, updates, refuses}
+use Rattle.c_filters.proofs.Roads.{Road, road-of, road-read, pair-put, updates, refuses}
 use Rattle.c_filters.proofs.kalman_update.Statement.{statement}
 use Rattle.c_filters.proofs.kalman_update.Tie as tie
 
@@ -39,7 +39,7 @@ returns c =
     let a = t .before .before .before .before .before .before .args in
     let r = f .road-at .result in
     let s = corrected-by (r .h0) (r .h1) (step .innovation .result .inverse) (estimateOf (r .pair)) told (right .corrected .ensures) (step .innovation .ensures) in
-    updates (a .filter .now) (a .z .now) (a .innovation .now) (road t) (room t) (f .road-at .ensures) s told (put .put-road .ensures)
+    updates (a .filter .now) (a .z .now) (a .innovation .now) (road t) (room t) (road-read (a .filter .now) (road t .long) (f .road-at .ensures)) s told (pair-put (a .filter .now) (right .corrected .result) (road t .long) (put .put-road .ensures))
 
 returns-2 : tie.Need-returns-2
 returns-2 c =
@@ -48,14 +48,14 @@ returns-2 c =
     let f = step .before .before in
     let t = f .before .before in
     let a = t .before .before .before .before .before .before .args in
-    refuses (a .filter .now) (a .z .now) (a .innovation .now) (road t) (room t) (f .road-at .ensures) (step .innovation .ensures) (told .answer2 .given .1)
+    refuses (a .filter .now) (a .z .now) (a .innovation .now) (road t) (room t) (road-read (a .filter .now) (road t .long) (f .road-at .ensures)) (step .innovation .ensures) (told .answer2 .given .1)
 
 pub kalman-update-spec : {M : Type 1} → statement M
 kalman-update-spec =
     tie.close
-    (tie.spec (λ c κs. search needs) (λ c κs. search needs) (λ c κs. road (c .before) .long)
+    (tie.spec (λ c κs. search needs) (λ c κs. search needs) (λ c κs. search needs)
     (λ c. omega (arith, road (c .before .before .before) .one)) (λ c κs. search needs) (λ c. search needs) (λ c κs. search needs)
-    (λ c κs. road (c .before .before .before .before .before .before .before .before .before) .long)
+    (λ c κs. search needs)
     (λ c. omega (arith, room (c .before .before .before .before .before .before .before .before .before .before .before .before)))
     (λ c. search needs) (λ c. search needs) returns (λ c. search needs) (λ c. search needs) returns-2
     (λ c κs. search needs) (λ c. search needs) (λ c. search needs) (λ c. search needs))

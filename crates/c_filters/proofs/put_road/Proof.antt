@@ -1,17 +1,10 @@
 -- `put_road` meets its contract: six numbers are copied.
-use native.Mathlib.Omega.{arith}
-use mathlib.Core.List.{[], _∷_}
 use borrow.Author.Needs.{needs}
-use Rattle.layout.proofs.Calls.{slice-put}
 use Rattle.c_filters.proofs.put_road.Statement.{statement}
 use Rattle.c_filters.proofs.put_road.Tie as tie
 
 returns : tie.Need-returns
-returns c =
-    let put = c .before .before in
-    let a = put .before .before .before .before .before .args in
-    let e = a .e in
-    slice-put 13 (a .f .now) (e .x0 ∷ e .x1 ∷ e .p .a ∷ e .p .b ∷ e .p .c ∷ e .p .d ∷ []) (omega (arith, put .before .before .before .before .before .pre)) (put .put-slice .ensures)
+returns c = c .before .before .put-slice .ensures
 
 pub put-road-spec : {M : Type 1} → statement M
 put-road-spec = tie.close (tie.spec (λ c. search needs) (λ c κs. search needs) (λ c. search needs) returns)
