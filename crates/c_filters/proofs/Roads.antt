@@ -58,11 +58,11 @@ pub pair-put : (f : List Float) {g : List Float} (e : Pair) → length f ≡ 19 
 pair-put f e l p = slice-put 13 f (estimateNumbers (estimateOf e)) (omega (arith, l)) p
 
 -- the tests of the sizes are passed
-step-passed : {k j : ℕ} → k ≡ 19 → j ≡ 1 → isStep 2 1 1 k 1 j ≡ true
+pub step-passed : {k j : ℕ} → k ≡ 19 → j ≡ 1 → isStep 2 1 1 k 1 j ≡ true
 unfolding isStep isFilter wellSized sized
 step-passed d e = ap₂ (λ (k j : ℕ). isStep 2 1 1 k 1 j) d e
 
-with-passed : {k j l : ℕ} → k ≡ 19 → j ≡ 1 → l ≡ 1 → isStepWith 2 1 1 k 1 j 1 l ≡ true
+pub with-passed : {k j l : ℕ} → k ≡ 19 → j ≡ 1 → l ≡ 1 → isStepWith 2 1 1 k 1 j 1 l ≡ true
 unfolding isStepWith
 with-passed {k} {j} {l} d e g = λ t. step-passed d e t && eq-eqb l 1 g t
 
@@ -77,7 +77,7 @@ module _ {n m i : ℕ} (f u : List Float) (R : Road n m i (length f) (length u))
       ∙ (λ t. predictIn (sym (R .states) t) (sym (R .measurements) t) (sym (R .inputs) t) f u)
 
 -- ---- an update, which tells a and leaves e; y held the innovation's place
-one-place : (y : List Float) (x : Float) → length y ≡ 1 → set y 0 x ≡ x ∷ []
+pub one-place : (y : List Float) (x : Float) → length y ≡ 1 → set y 0 x ≡ x ∷ []
 one-place [] x l = absurd (omega arith)
 one-place (z ∷ []) x l = refl
 one-place (z ∷ w ∷ y) x l = absurd (omega arith)

@@ -10,15 +10,18 @@ use answer::Status;
 use c_copies::is_filter;
 use c_copies::is_parts;
 use c_copies::is_step;
+use c_filters::is_road;
+use c_filters::put_road;
+use c_filters::road_at;
 use information_steps::update_by;
+use matrix::ScalarResult;
 use sizes::both;
 use sizes::size_of;
 
-// ---- the steps
+// ---- the steps on rows
 
-// One step on, with the input u of i numbers. Refused with 3, and nothing changes: inversion rejects omega, or the predicted
-// covariance.
-pub fn information_predict(n: usize, m: usize, i: usize, filter: &mut [f64], u: &[f64]) -> u8
+// One step on, with the input u of i numbers, for any sizes.
+fn predict_rows(n: usize, m: usize, i: usize, filter: &mut [f64], u: &[f64]) -> u8
     ensures { λ t. ⌜ (t, now (filter .exit)) ≡ predictIn n m i (now (filter .entry)) (now (u .entry)) ⌝ }
 {
     if is_step(n, m, i, filter.len(), i, u.len()) {
@@ -44,9 +47,8 @@ pub fn information_predict(n: usize, m: usize, i: usize, filter: &mut [f64], u: 
     }
 }
 
-// Updated by the measurement z of m numbers; the innovation is z less H times the state after. Refused with 3: inversion rejects
-// r, and nothing is written; or the new omega, and the filter keeps the addition.
-pub fn information_update(
+// Updated by the measurement z of m numbers, for any sizes.
+fn update_rows(
     n: usize,
     m: usize,
     i: usize,
@@ -91,6 +93,75 @@ pub fn information_update(
         1
     }
 }
+
+// ---- one road: two states, one measurement and one input, 19 numbers, read where they stand
+
+// One step on, with the input u of i numbers. Refused with 3, and nothing changes: inversion rejects omega, or the predicted
+// covariance.
+pub fn information_predict(n: usize, m: usize, i: usize, filter: &mut [f64], u: &[f64]) -> u8
+    ensures { λ t. ⌜ (t, now (filter .exit)) ≡ predictIn n m i (now (filter .entry)) (now (u .entry)) ⌝ }
+{
+    if is_road(n, m, i, filter.len(), u.len()) {
+        let f = road_at(filter);
+        let v = information_road::predict(f.a, f.b0, f.b1, f.q, u[0], f.pair);
+        let status = v.answer;
+        match status {
+            Status::Done => {
+                let o = v.pair;
+                put_road(filter, o);
+                return 0;
+            }
+            Status::Refused(number) => {
+                return number;
+            }
+        }
+    }
+    predict_rows(n, m, i, filter, u)
+}
+
+// Updated by the measurement z of m numbers; the innovation is z less H times the state after. Refused with 3: inversion rejects
+// r, and nothing is written; or the new omega, and the filter keeps the addition.
+pub fn information_update(
+    n: usize,
+    m: usize,
+    i: usize,
+    filter: &mut [f64],
+    z: &[f64],
+    innovation: &mut [f64],
+) -> u8
+    ensures { λ t. ⌜ (t, (now (filter .exit), now (innovation .exit))) ≡ updateIn n m i (now (filter .entry)) (now (z .entry)) (now (innovation .entry)) ⌝ }
+{
+    if both(
+        is_road(n, m, i, filter.len(), z.len()),
+        innovation.len() == 1,
+    ) {
+        let f = road_at(filter);
+        let noise = inverse::inverse_number(f.r);
+        match noise {
+            ScalarResult::Value(w) => {
+                let v = information_road::update_by(f.h0, f.h1, w, z[0], f.pair);
+                let o = v.pair;
+                put_road(filter, o);
+                let answer = v.answer;
+                match answer {
+                    ScalarResult::Value(y) => {
+                        innovation[0] = y;
+                        return 0;
+                    }
+                    ScalarResult::Refused(number) => {
+                        return number;
+                    }
+                }
+            }
+            ScalarResult::Refused(number) => {
+                return number;
+            }
+        }
+    }
+    update_rows(n, m, i, filter, z, innovation)
+}
+
+// ---- one sensor, and another estimate
 
 // One sensor's addition: h (m by n), its inverted noise r_inv (m by m), and what it measured, z (m).
 pub fn information_fuse_sensor(

@@ -1,81 +1,41 @@
--- `information_predict` meets its contract: by the test of the slice, and by the status.
+-- `information_predict` meets its contract: one road by its numbers, and else rows.
 use native.Mathlib.Omega.{arith}
-use mathlib.Core.Path.{_≡_, refl, sym, ap, _∙_}
-use mathlib.Core.Bool.{Bool}
+use mathlib.Core.Path.{_≡_, sym, _∙_}
 use lib.ListN.{length}
-use mathlib.Core.List.{List}
-use Prim.Native.Nat.{ℕ}
-use lib.Ieee.{Float}
-use Rattle.answer.specs.Outcome.{if-fitting, handed}
-use Rattle.answer.specs.Told.{statusOf}
-use Rattle.filtering.specs.Information.{predict}
-use Rattle.information_steps.specs.Step.{arraysOf}
-use Rattle.information_steps.proofs.Ways.{plain-predict}
-use Rattle.c_copies.specs.Filter.{motionAt}
-use Rattle.c_copies.proofs.Filters.{Step, step-of}
-use Rattle.c_copies.proofs.Steps.{isI, motion-read, vector-given}
-use Rattle.c_information.specs.Information.{informationAt, steppedIn}
-use Rattle.c_information.proofs.Calls.{place, information-read, stepped, stopped}
 use borrow.Author.Needs.{needs}
+use Rattle.c_filters.proofs.Roads.{Road, road-of, road-read, pair-put}
+use Rattle.c_information.proofs.Roads.{predicts, stops}
 use Rattle.c_information.proofs.information_predict.Statement.{statement}
 use Rattle.c_information.proofs.information_predict.Tie as tie
 
-test : (c : tie.Then1) → let a = c .before .before .before .before .args in Step (a .n) (a .m) (a .i) (length (a .filter .now)) (a .i) (length (a .u .now))
-test c = step-of _ _ _ _ _ _ (sym (c .before .is-step .ensures) ∙ c .if1 .taken)
-
--- by the test of the sizes
-abbrev by : ℕ → ℕ → ℕ → List Float → List Float → Bool → ℕ × List Float
-by n m i f u t = steppedIn n m i f (if-fitting t (predict (motionAt n m i f) u (informationAt n m i f)))
+road : (c : tie.Then1) → let a = c .before .before .before .before .args in Road (a .n) (a .m) (a .i) (length (a .filter .now)) (length (a .u .now))
+road c = road-of _ _ _ _ _ (sym (c .before .is-road .ensures) ∙ c .if1 .taken)
 
 returns : tie.Need-returns
 returns c =
     let put = c .before .before in
     let told = put .before .before .before in
-    let st = told .before .before in
-    let w = st .before .before .before .before .before .before .before in
-    let x = w .before .before in
-    let v = x .before .before in
-    let q = v .before in
-    let bm = q .before .before in
-    let am = bm .before .before in
-    let si = am .before .before in
-    let sn = si .before in
-    let t = sn .before in
+    let step = told .before .before in
+    let f = step .before .before in
+    let t = f .before .before in
     let a = t .before .before .before .before .args in
-    let s = test t in
-    let M = motion-read (a .n) (a .m) (a .i) (a .filter .now) (s .whole) (sn .size-of .ensures) refl (si .size-of2 .ensures) (place (a .n) (a .m) (a .i) (a .filter .now) (s .whole)) (am .matrix-at .ensures) (bm .matrix-at2 .ensures) (q .matrix-at3 .ensures) in
-    let u = vector-given (a .n) (a .m) (a .i) (a .filter .now) (s .whole) (sn .size-of .ensures) refl (si .size-of2 .ensures) (place (a .n) (a .m) (a .i) (a .filter .now) (s .whole)) (si .size-of2 .result) (a .u .now)
-    (isI (a .n) (a .m) (a .i) (a .filter .now) (s .whole) (sn .size-of .ensures) refl (si .size-of2 .ensures) (place (a .n) (a .m) (a .i) (a .filter .now) (s .whole))) (s .same) (v .vector-at .ensures) in
-    let O = information-read (a .n) (a .m) (a .i) (a .filter .now) (s .whole) (sn .size-of .ensures) refl (x .vector-at2 .ensures) (w .matrix-at4 .ensures) in
-    let e = st .predict .ensures ∙ λ j. handed statusOf arraysOf (w .matrix-at4 .result, x .vector-at2 .result) (predict (M j) (u j) (O j)) in
-    stepped (a .n) (a .m) (a .i) (a .filter .now) (s .whole) (sn .size-of .ensures) refl (w .matrix-at4 .result) (x .vector-at2 .result) (plain-predict _ _ _) e (told .enum-told .given .1) (put .put-pair .ensures)
-    ∙ ap (by (a .n) (a .m) (a .i) (a .filter .now) (a .u .now)) (sym (sym (t .before .is-step .ensures) ∙ t .if1 .taken))
+    let b = a .filter .now in
+    predicts b (a .u .now) (road t) (f .road-at .result) (road-read b (road t .long) (f .road-at .ensures)) (step .predict .ensures) (told .enum-told .given .1)
+    (pair-put b (step .predict .result .pair) (road t .long) (put .put-road .ensures))
 
 returns-2 : tie.Need-returns-2
 returns-2 c =
     let told = c .before in
-    let st = told .before .before in
-    let w = st .before .before .before .before .before .before .before in
-    let x = w .before .before in
-    let v = x .before .before in
-    let q = v .before in
-    let bm = q .before .before in
-    let am = bm .before .before in
-    let si = am .before .before in
-    let sn = si .before in
-    let t = sn .before in
+    let step = told .before .before in
+    let f = step .before .before in
+    let t = f .before .before in
     let a = t .before .before .before .before .args in
-    let s = test t in
-    let M = motion-read (a .n) (a .m) (a .i) (a .filter .now) (s .whole) (sn .size-of .ensures) refl (si .size-of2 .ensures) (place (a .n) (a .m) (a .i) (a .filter .now) (s .whole)) (am .matrix-at .ensures) (bm .matrix-at2 .ensures) (q .matrix-at3 .ensures) in
-    let u = vector-given (a .n) (a .m) (a .i) (a .filter .now) (s .whole) (sn .size-of .ensures) refl (si .size-of2 .ensures) (place (a .n) (a .m) (a .i) (a .filter .now) (s .whole)) (si .size-of2 .result) (a .u .now)
-    (isI (a .n) (a .m) (a .i) (a .filter .now) (s .whole) (sn .size-of .ensures) refl (si .size-of2 .ensures) (place (a .n) (a .m) (a .i) (a .filter .now) (s .whole))) (s .same) (v .vector-at .ensures) in
-    let O = information-read (a .n) (a .m) (a .i) (a .filter .now) (s .whole) (sn .size-of .ensures) refl (x .vector-at2 .ensures) (w .matrix-at4 .ensures) in
-    let e = st .predict .ensures ∙ λ j. handed statusOf arraysOf (w .matrix-at4 .result, x .vector-at2 .result) (predict (M j) (u j) (O j)) in
-    stopped (a .n) (a .m) (a .i) (a .filter .now) (s .whole) (sn .size-of .ensures) refl (w .matrix-at4 .result) (x .vector-at2 .result) (plain-predict _ _ _) e (told .answer .given .1)
-    ∙ ap (by (a .n) (a .m) (a .i) (a .filter .now) (a .u .now)) (sym (sym (t .before .is-step .ensures) ∙ t .if1 .taken))
-
-returns-3 : tie.Need-returns-3
-returns-3 c = let a = c .before .before .before .before .args in ap (by (a .n) (a .m) (a .i) (a .filter .now) (a .u .now)) (sym (sym (c .before .is-step .ensures) ∙ c .if1 .left))
+    let b = a .filter .now in
+    stops b (a .u .now) (road t) (f .road-at .result) (road-read b (road t .long) (f .road-at .ensures)) (step .predict .ensures) (told .status .given .1)
 
 pub information-predict-spec : {M : Type 1} → statement M
-information-predict-spec = tie.close (tie.spec (λ c κs. search needs) (λ c. omega (arith, test c .whole .few, test c .whole .long)) (λ c. omega (arith, test c .whole .few, test c .whole .long)) (λ c. omega (arith, test c .whole .few, test c .whole .long)) (λ c κs. search needs) (λ c κs. search needs) (λ c κs. search needs) (λ c. omega (arith, test (c .before .before .before .before .before) .whole .few, test (c .before .before .before .before .before) .whole .long)) (λ c κs. search needs) (λ c. omega (arith, test (c .before .before .before .before .before .before .before) .whole .few, test (c .before .before .before .before .before .before .before) .whole .long)) (λ c. omega (arith, test (c .before .before .before .before .before .before .before) .whole .few, test (c .before .before .before .before .before .before .before) .whole .long)) (λ c. omega (arith, test (c .before .before .before .before .before .before .before) .whole .few, test (c .before .before .before .before .before .before .before) .whole .long)) (λ c. omega (arith, test (c .before .before .before .before .before .before .before) .whole .few, test (c .before .before .before .before .before .before .before) .whole .long)) (λ c. omega (arith, test (c .before .before .before .before .before .before .before) .whole .few, test (c .before .before .before .before .before .before .before) .whole .long)) (λ c κs. search needs) (λ c κs. search needs) (λ c κs. search needs) (λ c. omega (arith, test (c .before .before .before .before .before .before .before .before .before .before .before .before) .whole .few, test (c .before .before .before .before .before .before .before .before .before .before .before .before) .whole .long)) (λ c κs. search needs) (λ c κs. search needs) (λ c. search needs) (λ c κs. search needs) (λ c. search needs) (λ c. search needs) returns (λ c. search needs) returns-2 returns-3)
+information-predict-spec =
+    tie.close
+    (tie.spec (λ c κs. search needs) (λ c κs. search needs) (λ c. omega (arith, road (c .before .before .before) .one))
+    (λ c κs. search needs) (λ c. search needs) (λ c κs. search needs) (λ c. search needs) returns (λ c. search needs) (λ c. search needs) returns-2
+    (λ c κs. search needs) (λ c. search needs) (λ c. search needs))
