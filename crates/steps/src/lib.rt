@@ -9,11 +9,11 @@ ghost use Rattle.filtering.specs.Filter.{predictedState, propagated as propagat
 ghost use Rattle.steps.specs.Step.{wellSized, fitting, motionRows, predictRows, updateRows};
 use answer::Status;
 use matrix::VectorResult;
+use sizes::Size;
 use sizes::both;
 use sizes::number;
 
 pub mod four;
-pub mod road;
 
 // ---- the sizes of a filter, tested by one bool
 
