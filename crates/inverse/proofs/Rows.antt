@@ -47,47 +47,47 @@ module _ (n : ℕ) (a : Matrix) (long : n ≤ length a) where
 abbrev pub reducedRow : Vector → Matrix → ℕ → ℕ → Vector
 reducedRow f a c i = cond (eqb i c) (row a c) (table 4 (λ j. cell a i j ⊖ at f i ⊗ cell a c j))
 
--- A loop has reduced the first i of n rows: its invariant
-pub record Reducing (f : Vector) (a : Matrix) (n c i : ℕ) (l : Matrix) : Type 0 where
-  pub within : i ≤ n
+-- A loop has reduced the first i of four rows: its invariant
+pub record Reducing (f : Vector) (a : Matrix) (c i : ℕ) (l : Matrix) : Type 0 where
+  pub within : i ≤ 4
   pub is : l ≡ filled i (reducedRow f a c) a
 
-pub reducing-none : (f : Vector) (a : Matrix) (n c : ℕ) → Reducing f a n c 0 a
-reducing-none f a n c = record { within = omega arith; is = refl }
+pub reducing-none : (f : Vector) (a : Matrix) (c : ℕ) → Reducing f a c 0 a
+reducing-none f a c = record { within = omega arith; is = refl }
 
-module _ {f : Vector} {a : Matrix} {n c i : ℕ} {l : Matrix} (e : Reducing f a n c i l) (long : n ≤ length a) where
+module _ {f : Vector} {a : Matrix} {c i : ℕ} {l : Matrix} (e : Reducing f a c i l) (fits : length a ≡ 4) where
+  inside : i < 4 → i < length a
+  inside h = subst (λ (k : ℕ). i < k) (sym fits) h
+
   -- row i is still the array's
-  next : i < n → row l i ≡ row a i
-  next h = ap (λ (m : Matrix). row m i) (e .is) ∙ filled-at (reducedRow f a c) i a (le-trans h long)
+  next : i < 4 → row l i ≡ row a i
+  next h = ap (λ (m : Matrix). row m i) (e .is) ∙ filled-at (reducedRow f a c) i a (inside h)
 
-  more : i < n → {x : Vector} → x ≡ reducedRow f a c i → Reducing f a n c (i + 1) (set l i x)
-  more h {x} v = record { within = omega arith; is = filled-more i (reducedRow f a c) a l x (le-trans h long) (e .is) v }
+  more : i < 4 → {x : Vector} → x ≡ reducedRow f a c i → Reducing f a c (i + 1) (set l i x)
+  more h {x} v = record { within = omega arith; is = filled-more i (reducedRow f a c) a l x (inside h) (e .is) v }
 
-  pub reducing-stored : i < n → (i ≡ c → ⊥) → Reducing f a n c (i + 1) (set l i (table 4 (λ j. cell l i j ⊖ at f i ⊗ cell a c j)))
+  pub reducing-stored : i < 4 → (i ≡ c → ⊥) → Reducing f a c (i + 1) (set l i (table 4 (λ j. cell l i j ⊖ at f i ⊗ cell a c j)))
   reducing-stored h d =
       more h
       (ap (λ (v : Vector). table 4 (λ j. at v j ⊖ at f i ⊗ cell a c j)) (next h) ∙ sym (cond-false (row a c) _ (ne-eqb i c d)))
 
-  pub reducing-kept : i < n → i ≡ c → Reducing f a n c (i + 1) l
+  pub reducing-kept : i < 4 → i ≡ c → Reducing f a c (i + 1) l
   reducing-kept h d =
-      subst (λ (m : Matrix). Reducing f a n c (i + 1) m) (set-getD l i [])
+      subst (λ (m : Matrix). Reducing f a c (i + 1) m) (set-getD l i [])
       (more h (next h ∙ ap (row a) d ∙ sym (cond-true (row a c) _ (eq-eqb i c d))))
 
-  pub reducing-all : n ≤ i → n ≤ 4 → c < n → length a ≡ 4 → Reduce n c f a l
+  pub reducing-all : 4 ≤ i → Reduce c f a l
   unfolding used cut reduced
-  reducing-all h four hc fits =
+  reducing-all h =
       record {
         is =
+            λ n four hc.
             mat-ext n n _ _
             (λ k j hk hj.
             ap (λ (m : Matrix). cell m k j) (e .is)
-            ∙ ap (λ (v : Vector). at v j) (filled-before (reducedRow f a c) i k a (le-trans hk h))
+            ∙ ap (λ (v : Vector). at v j) (filled-before (reducedRow f a c) i k a (le-trans hk (le-trans four h)))
             ∙ at-cond (eqb k c) (row a c) _ j
             ∙ ap (cond (eqb k c) (cell a c j)) (getD-table 4 (λ j. cell a k j ⊖ at f k ⊗ cell a c j) j nan (le-trans hj four))
             ∙ sym (λ t. cond (eqb k c) (cell-used n n a c j hc hj t) (cell-used n n a k j hk hj t ⊖ at-cut n f k hk t ⊗ cell-used n n a c j hc hj t)));
-        long = ap length (e .is) ∙ length-filled i (reducedRow f a c) a (le-trans (e .within) long) ∙ fits;
+        long = ap length (e .is) ∙ length-filled i (reducedRow f a c) a (subst (λ (k : ℕ). i ≤ k) (sym fits) (e .within)) ∙ fits;
       }
-
--- the number of rows under another name
-pub reduced-renamed : {n k c : ℕ} {f : Vector} {a l : Matrix} → n ≡ k → Reduce n c f a l → Reduce k c f a l
-reduced-renamed {n} {k} {c} {f} {a} {l} e r = subst (λ (m : ℕ). Reduce m c f a l) e r

@@ -1,11 +1,11 @@
 // `inv` of src/core/matrix.rs: Gauss and Jordan's elimination with partial pivoting, in place on two arrays of rows.
 // Cells outside the used n by n part are ignored on entry, take part in no used cell, and are +0 in the result.
 ghost use mathlib.Core.Path.{_≡_};
-ghost use Prim.Native.Nat.{_<_, _-_, suc};
+ghost use Prim.Native.Nat.{_<_, _≤_, _-_, suc};
 ghost use lib.ListN.{length};
 ghost use lib.Ieee.{lt};
 ghost use Rattle.scalar.specs.Number.{abs as absOf};
-ghost use Rattle.answer.specs.Answer.{if-sized};
+ghost use Rattle.answer.specs.Answer.{refused, if-sized};
 ghost use Rattle.answer.specs.Table.{table};
 ghost use Rattle.algebra.specs.Matrix.{cell, oneByOne, twoByTwo};
 ghost use Rattle.algebra.specs.Array.{used};
@@ -13,7 +13,7 @@ ghost use Rattle.algebra.specs.Inverse.{noPivot, pivotRow, inv as invOf};
 ghost use Rattle.sizes.specs.Size.{count, part, sized};
 ghost use Rattle.matrix.specs.Result.{matrixResult, asMatrix, asScalar};
 ghost use Rattle.inverse.specs.Two.{inRows, invNumber, fromDiagonal};
-ghost use Rattle.inverse.specs.Rows.{Swap, Scale, Reduce, Clear};
+ghost use Rattle.inverse.specs.Rows.{Swap, Scale, Reduce, Bring, Clear};
 use answer::Status;
 use matrix::MatrixResult;
 use matrix::ScalarResult;
@@ -38,11 +38,13 @@ fn pivot_row(a: &[[f64; 4]; 4], n: Size, col: usize) -> usize
     let rows = number(n);
     let mut p = col;
     let mut largest = scalar::ControlScalar::abs(a[col][col]);
-    for i in col + 1..rows {
-        let x = scalar::ControlScalar::abs(a[i][col]);
-        if x > largest {
-            largest = x;
-            p = i;
+    for i in col + 1..4 {
+        if i < rows {
+            let x = scalar::ControlScalar::abs(a[i][col]);
+            if x > largest {
+                largest = x;
+                p = i;
+            }
         }
     }
     p
@@ -50,14 +52,15 @@ fn pivot_row(a: &[[f64; 4]; 4], n: Size, col: usize) -> usize
 
 // ---- operations on rows, over all four columns
 
-// Rows p and q change places.
-fn swap_rows(m: &mut [[f64; 4]; 4], p: usize, q: usize)
+// m, its rows p and q exchanged.
+fn swapped(m: [[f64; 4]; 4], p: usize, q: usize) -> [[f64; 4]; 4]
     requires { ⌜ (p < 4) × (q < 4) ⌝ }
-    ensures { λ r. ⌜ Swap p q (now (m .entry)) (now (m .exit)) ⌝ }
+    ensures { λ r. ⌜ Swap p q m r ⌝ }
 {
-    let v = m[p];
-    m[p] = m[q];
-    m[q] = v;
+    let mut r = m;
+    r[p] = m[q];
+    r[q] = m[p];
+    r
 }
 
 // Row col times s.
@@ -77,13 +80,12 @@ fn column_of(m: &[[f64; 4]; 4], col: usize) -> [f64; 4]
 }
 
 // Each row i but col less f[i] times row col.
-fn reduce_rows(m: &mut [[f64; 4]; 4], n: Size, col: usize, f: [f64; 4])
-    requires { ⌜ (col < count n) × (length (now m) ≡ 4) ⌝ }
-    ensures { λ r. ⌜ Reduce (count n) col f (now (m .entry)) (now (m .exit)) ⌝ }
+fn reduce_rows(m: &mut [[f64; 4]; 4], col: usize, f: [f64; 4])
+    requires { ⌜ (col < 4) × (length (now m) ≡ 4) ⌝ }
+    ensures { λ r. ⌜ Reduce col f (now (m .entry)) (now (m .exit)) ⌝ }
 {
-    let rows = number(n);
     let w = m[col];
-    for i in 0..rows {
+    for i in 0..4 {
         if i != col {
             let v = m[i];
             let g = f[i];
@@ -97,39 +99,82 @@ fn reduce_rows(m: &mut [[f64; 4]; 4], n: Size, col: usize, f: [f64; 4])
     }
 }
 
-// ---- the elimination
+// ---- the elimination, on four rows for every n: a row past n takes part in no other. Where col is a literal, a compiler
+// writes the loops out, and keeps both arrays in registers, but for an exchange, which goes by a copy.
 
-// Column col of left becomes that of the identity; its pivot is in row p.
-fn clear_column(left: &mut [[f64; 4]; 4], right: &mut [[f64; 4]; 4], n: Size, p: usize, col: usize)
-    requires { ⌜ (p < count n) × (col < count n) × (length (now left) ≡ 4) × (length (now right) ≡ 4) ⌝ }
-    ensures { λ r. ⌜ Clear (count n) p col (now (left .entry)) (now (right .entry)) (now (left .exit)) (now (right .exit)) ⌝ }
+// The pivot of column col comes to the diagonal.
+fn bring_pivot(left: &mut [[f64; 4]; 4], right: &mut [[f64; 4]; 4], n: Size, col: usize)
+    requires { ⌜ (col < count n) × (length (now left) ≡ 4) × (length (now right) ≡ 4) ⌝ }
+    ensures { λ r. ⌜ Bring (count n) col (now (left .entry)) (now (right .entry)) (now (left .exit)) (now (right .exit)) ⌝ }
 {
-    swap_rows(left, p, col);
-    swap_rows(right, p, col);
+    let p = pivot_row(left, n, col);
+    if p == col {
+        return;
+    }
+    let l = swapped(*left, p, col);
+    *left = l;
+    let r = swapped(*right, p, col);
+    *right = r;
+}
+
+// Column col of left, whose pivot is on the diagonal, becomes that of the identity.
+fn clear_column(left: &mut [[f64; 4]; 4], right: &mut [[f64; 4]; 4], col: usize)
+    requires { ⌜ (col < 4) × (length (now left) ≡ 4) × (length (now right) ≡ 4) ⌝ }
+    ensures { λ r. ⌜ Clear col (now (left .entry)) (now (right .entry)) (now (left .exit)) (now (right .exit)) ⌝ }
+{
     let s = 1.0 / left[col][col];
     scale_row(left, col, s);
     scale_row(right, col, s);
     let f = column_of(left, col);
-    reduce_rows(left, n, col, f);
-    reduce_rows(right, n, col, f);
+    reduce_rows(left, col, f);
+    reduce_rows(right, col, f);
+}
+
+// A column has no pivot.
+fn no_inverse() -> MatrixResult
+    ensures { λ r. ⌜ r ≡ asMatrix (refused 3) ⌝ }
+{
+    matrix::matrix_refused(3)
 }
 
 // Left is on its way to the identity, and right from the identity to the inverse. Left is a copy of a row
 // by row: so it is known to have four.
 fn eliminate(a: &[[f64; 4]; 4], n: Size) -> MatrixResult
+    requires { ⌜ 3 ≤ count n ⌝ }
     ensures { λ r. ⌜ r ≡ asMatrix (invOf (count n) (part n n (now (a .entry)))) ⌝ }
 {
-    let columns = number(n);
     let mut left = [a[0], a[1], a[2], a[3]];
     let mut right = kernel::identity_rows();
-    for col in 0..columns {
-        let p = pivot_row(&left, n, col);
-        if no_pivot(left[p][col]) {
-            return matrix::matrix_refused(3);
-        }
-        clear_column(&mut left, &mut right, n, p, col);
+    bring_pivot(&mut left, &mut right, n, 0);
+    if no_pivot(left[0][0]) {
+        return no_inverse();
     }
-    matrix::matrix_result(Status::Done, rows::used_part(&right, n, n))
+    clear_column(&mut left, &mut right, 0);
+    bring_pivot(&mut left, &mut right, n, 1);
+    if no_pivot(left[1][1]) {
+        return no_inverse();
+    }
+    clear_column(&mut left, &mut right, 1);
+    bring_pivot(&mut left, &mut right, n, 2);
+    if no_pivot(left[2][2]) {
+        return no_inverse();
+    }
+    clear_column(&mut left, &mut right, 2);
+    if number(n) < 4 {
+        return matrix::matrix_result(
+            Status::Done,
+            rows::used_part(&right, Size::Three, Size::Three),
+        );
+    }
+    bring_pivot(&mut left, &mut right, n, 3);
+    if no_pivot(left[3][3]) {
+        return no_inverse();
+    }
+    clear_column(&mut left, &mut right, 3);
+    matrix::matrix_result(
+        Status::Done,
+        rows::used_part(&right, Size::Four, Size::Four),
+    )
 }
 
 // ---- the sizes 1 and 2, straight-line
@@ -232,11 +277,14 @@ fn read_again(r: MatrixResult) -> MatrixResult
 pub fn inverse_of(a: &[[f64; 4]; 4], n: Size) -> MatrixResult
     ensures { λ r. ⌜ r ≡ asMatrix (invOf (count n) (part n n (now (a .entry)))) ⌝ }
 {
-    match n {
-        Size::One => inverse_one(a[0][0]),
-        Size::Two => rows_two(inverse_two(a[0][0], a[0][1], a[1][0], a[1][1])),
-        _ => eliminate(a, n),
+    let k = number(n);
+    if k < 2 {
+        return inverse_one(a[0][0]);
     }
+    if k < 3 {
+        return rows_two(inverse_two(a[0][0], a[0][1], a[1][0], a[1][1]));
+    }
+    eliminate(a, n)
 }
 
 // The same, by value. Refused with 1: n is no size.
@@ -244,15 +292,14 @@ pub fn inv(a: [[f64; 4]; 4], n: usize) -> MatrixResult
     ensures { λ r. ⌜ r ≡ asMatrix (if-sized (sized n) (invOf n (used n n a))) ⌝ }
 {
     if sizes::is_size(n) {
-        let s = sizes::size_of(n);
-        match s {
-            Size::One => inverse_one(a[0][0]),
-            Size::Two => rows_two(inverse_two(a[0][0], a[0][1], a[1][0], a[1][1])),
-            _ => {
-                let lent = a;
-                read_again(eliminate(&lent, s))
-            }
+        if n < 2 {
+            return inverse_one(a[0][0]);
         }
+        if n < 3 {
+            return rows_two(inverse_two(a[0][0], a[0][1], a[1][0], a[1][1]));
+        }
+        let lent = a;
+        read_again(eliminate(&lent, sizes::size_of(n)))
     } else {
         matrix::matrix_refused(1)
     }

@@ -3,31 +3,33 @@ use mathlib.Core.Logic.{⊎-elim}
 use mathlib.Core.Path.{ap, _∙_}
 use Prim.Native.Nat.{ℕ, suc, _-_, _≤_}
 use native.Mathlib.Omega.{arith}
-use Rattle.algebra.proofs.Pivots.{Leading, leading-first, leading-passed, leading-kept, leading-all}
 use Rattle.algebra.specs.Inverse.{pivotRow}
 use Rattle.sizes.proofs.Sizes.{bounds}
+use Rattle.inverse.proofs.Pivots.{Searching, searching-first, searching-past, searching-passed, searching-kept, searching-all}
 use Rattle.inverse.proofs.pivot_row.Statement.{statement}
 use Rattle.inverse.proofs.pivot_row.Tie as tie
 
 abbrev Inv-loop : tie.InvT-loop
-Inv-loop a col rows p₀ largest₀ i₀ p largest i = (rows ≤ 4) × Leading a col rows i p largest
+Inv-loop a col rows p₀ largest₀ i₀ p largest i = (rows ≤ 4) × Searching a col rows i p largest
 
 abbrev μ-loop : tie.MeasureT-loop
-μ-loop a col rows p₀ largest₀ i₀ p largest i = rows - i
+μ-loop a col rows p₀ largest₀ i₀ p largest i = 4 - i
 
 loop-holds : tie.Need-loop-holds Inv-loop μ-loop
 loop-holds c =
     let k = c .before .before in
     let most = bounds (k .before .args .n) .most in
-    (omega arith, leading-first _ _ _ (omega arith) (c .abs .ensures))
+    (omega arith, searching-first _ _ _ (omega arith) (c .abs .ensures))
 
 loop-again : tie.Need-loop-again Inv-loop μ-loop
 loop-again c =
-    let e = c .before .before .before .before .loop .inv in (
+    let e = c .before .before .loop .inv in (
       e .0,
       ⊎-elim
-          (λ w. rw (w .1, w .2) (leading-passed (e .1) (omega arith) (c .before .abs2 .ensures) (w .0 .taken)))
-          (λ w. rw (w .1, w .2) (leading-kept (e .1) (omega arith) (c .before .abs2 .ensures) (w .0 .left)))
+          (λ w. rw (w .4, w .5) (searching-passed (e .1) (w .0 .taken) (w .2 .ensures) (w .3 .taken)))
+          (⊎-elim
+          (λ w. rw (w .4, w .5) (searching-kept (e .1) (w .0 .taken) (w .2 .ensures) (w .3 .left)))
+          (λ w. rw (w .1, w .2) (searching-past (e .1) (w .0 .left))))
           (c .if1 .came),
     )
 
@@ -36,7 +38,7 @@ returns c =
     let l = c .before in
     let k = l .before .before .before in
     let x = k .before .args in
-    let r = leading-all (l .loop .inv .1) (omega arith) in
+    let r = searching-all (l .loop .inv .1) (omega (arith, l .loop .inv .0)) in
     (r .0 ∙ ap (λ (n : ℕ). pivotRow (x .a .now) (x .col) (n - suc (x .col))) (k .number .ensures), omega (arith, r, k .number .ensures))
 
 pub pivot-row-spec : {M : Type 1} → statement M
