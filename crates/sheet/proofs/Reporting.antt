@@ -1,6 +1,6 @@
 -- The report of a sheet by what the code holds of it, step after step. Assumes nothing.
-use mathlib.Core.Path.{_≡_, refl, sym, ap, _∙_, subst}
-use mathlib.Core.Bool.{Bool, true, false, cond}
+use mathlib.Core.Path.{_≡_, refl, sym, ap, _∙_}
+use mathlib.Core.Bool.{Bool, true, false}
 use mathlib.Core.List.{List, [], _∷_, _++_, map}
 use mathlib.Core.Option.{Option, none, some}
 use Prim.Native.Nat.{ℕ, _+_, _≤_, _<_}
@@ -9,12 +9,9 @@ use native.Mathlib.Numerals.{add-one}
 use native.Mathlib.Omega.{arith}
 use lib.IntN.{ℤ}
 use lib.Ieee.{Float}
-use lib.ListN.{length, take, drop, getD, set, replicate, length-map, take-append-drop}
+use lib.ListN.{length, take, getD, set, replicate, length-map}
 use lib.Seq.{sets, sets-eq, take-at, take-suc, take-suc-set}
-use borrow.Author.Tests.{lt-ltb, le-ltb}
 use Rattle.answer.specs.Table.{padTo}
-use Rattle.answer.specs.Answer.{answered, refused as refusedWith}
-use Rattle.answer.specs.Told.{given as placed}
 use Rattle.scalar.specs.Number.{+0}
 use Rattle.tracking.specs.Track.{Smoothed, Tracked, rejected, tracked, track}
 use Rattle.tracking.proofs.Laws.{tracks}
@@ -26,7 +23,7 @@ use Rattle.sheets.proofs.Sound.{sheet-sound, metres-sound, told-refused, told-g
 use Rattle.sheets.proofs.Verdicts.{given-long}
 use Rattle.sheets.proofs.Counts.{Few, sheet-counted}
 use Rattle.sheets.proofs.Printing.{metres-long}
-use Rattle.sheets.proofs.Printed.{tracked-long, reports}
+use Rattle.sheets.proofs.Printed.{tracked-long}
 use Rattle.sheet_text.specs.Held.{wholeOf, numberOf}
 use Rattle.sheet_text.proofs.Fields.{number-of}
 use Rattle.sheet_reader.specs.Held.{noReading, readingHeld, thisSheet, sheetHeld}
@@ -36,11 +33,9 @@ use Rattle.tracker.specs.Tracked.{readingOf, told, trackIn}
 use Rattle.tracker.specs.declared.Settings.{Settings}
 use Rattle.tracker.specs.declared.Positions.{Positions}
 use Rattle.tracker.specs.declared.Reading as Taken
-use Rattle.sheet.specs.Held.{noMark, marksHeld, Stored}
-use Rattle.sheet.specs.Call.{settingsHeld, floatReading, reportTold, reportLeft, isSmall, reportIn}
+use Rattle.sheet.specs.Held.{noMark, marksHeld}
+use Rattle.sheet.specs.Call.{settingsHeld, floatReading}
 use Rattle.sheet.specs.declared.stages.Marks.{Marks}
-use Rattle.sheet.specs.declared.Reported.{Reported}
-use Rattle.sheet.specs.declared.Reported.the-variants.{Written, Refused}
 
 -- ---- lists in arrays
 
@@ -180,43 +175,3 @@ module _ (s : List ℕ) (d : SheetRead) (pd : d ≡ sheetHeld (readSheet s)) whe
               ∙ ap (map numberOf) (over 64 (length (sh .readings)) noMark (map wholeOf (v .0)) (length-map (v .0) wholeOf ∙ e) (few .few-readings))
               ∙ map-number (v .0) in
               lines ∙ rw (v .1, a, b)
-
--- ---- the whole output
-
-pub small-told : (t d : List ℕ) → length d < 1600 → (reportTold t d ≡ Refused 1) × (reportLeft t d ≡ d)
-small-told t d h = (rw (lt-ltb (length d) 1600 h), rw (lt-ltb (length d) 1600 h))
-
-pub stored-told : (t d e : List ℕ) (r : ℕ) → 1600 ≤ length d → Stored d e 0 t r
-    → (reportTold t d ≡ Written r) × (reportLeft t d ≡ e)
-stored-told t d e r h g =
-    let n : r ≡ length t = g .next ∙ zero-add (length t) in
-    let u : take r e ++ drop r e ≡ e = take-append-drop r e in
-    let w : t ++ drop (length t) d ≡ e = rw (← n, ← g .rest) (sym (ap (λ (y : List ℕ). y ++ drop r e) (g .upto)) ∙ u) in
-    (rw (le-ltb (length d) 1600 h, n), rw (le-ltb (length d) 1600 h) w)
-
--- what is written is no longer than 64 lines of 25 bytes
-pub written-fits : (s d : List ℕ) (n : ℕ) → reportTold (report s) d ≡ Written n → n ≤ 1600
-written-fits s d n e = go (isSmall d) e
-  where
-    go : (b : Bool) → cond b (Refused 1) (Written (length (report s))) ≡ Written n → n ≤ 1600
-    go true h = let z : _≡_ {A = ℕ} 0 1 = cc in absurd (omega arith)
-    go false h = let z : length (report s) ≡ n = cc in subst (λ (m : ℕ). m ≤ 1600) z (reports .room s)
-
--- ---- the call with a place for the count
-
-module _ (t d : List ℕ) (w : ℕ) (r : Reported) (p : r ≡ reportTold t d) where
-  pub count-refused : (n : ℕ) → r ≡ Refused n → (n, (w, reportLeft t d)) ≡ placed {A = ℕ × List ℕ} (w, d) (reportIn t d)
-  count-refused n e = go (isSmall d) (sym e ∙ p)
-    where
-      go : (b : Bool) → Refused n ≡ cond b (Refused 1) (Written (length t))
-          → (n, (w, cond b d (t ++ drop (length t) d))) ≡ placed {A = ℕ × List ℕ} (w, d) (cond b (refusedWith 1) (answered (length t, t ++ drop (length t) d)))
-      go true h = let z : n ≡ 1 = cc in rw z
-      go false h = let z : _≡_ {A = ℕ} 0 1 = cc in absurd (omega arith)
-
-  pub count-written : (n : ℕ) → r ≡ Written n → (0, (n, reportLeft t d)) ≡ placed {A = ℕ × List ℕ} (w, d) (reportIn t d)
-  count-written n e = go (isSmall d) (sym e ∙ p)
-    where
-      go : (b : Bool) → Written n ≡ cond b (Refused 1) (Written (length t))
-          → (0, (n, cond b d (t ++ drop (length t) d))) ≡ placed {A = ℕ × List ℕ} (w, d) (cond b (refusedWith 1) (answered (length t, t ++ drop (length t) d)))
-      go true h = let z : _≡_ {A = ℕ} 0 1 = cc in absurd (omega arith)
-      go false h = let z : n ≡ length t = cc in rw z

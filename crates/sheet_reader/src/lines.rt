@@ -1,5 +1,5 @@
 // A line of a sheet: its form and its numbers, each field read once. A place is asked to stand within the sheet, so these are for this
-// crate alone.
+// crate alone. A number is handed on by its two parts: copied as one, it would wait for both to be stored.
 ghost use mathlib.Core.Path.{_≡_};
 ghost use mathlib.Core.Bool.{true, false};
 ghost use Prim.Native.Nat.{_+_, _<_, _≤_};
@@ -63,7 +63,14 @@ pub(crate) fn one_at(s: &[u8], at: usize) -> Number
     if s[at + 8] != b'\n' {
         return none;
     }
-    number_at(s, at)
+    let a = number_at(s, at);
+    let formed = a.formed;
+    let w = a.value;
+    let value = Whole {
+        below: w.below,
+        size: w.size,
+    };
+    Number { formed, value }
 }
 
 fn no_numbers() -> Numbers
@@ -102,8 +109,16 @@ pub(crate) fn two_at(s: &[u8], at: usize) -> Numbers
     }
     let b = number_at(s, at + 8);
     let formed = b.formed;
-    let first = a.value;
-    let second = b.value;
+    let v = a.value;
+    let w = b.value;
+    let first = Whole {
+        below: v.below,
+        size: v.size,
+    };
+    let second = Whole {
+        below: w.below,
+        size: w.size,
+    };
     Numbers {
         formed,
         first,

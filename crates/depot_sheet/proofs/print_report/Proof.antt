@@ -5,7 +5,7 @@ use native.Mathlib.Omega.{arith}
 use lib.ListN.{replicate}
 use lib.Seq.{length-take-le}
 use denote.Ref.{now}
-use Rattle.sheet.proofs.Reporting.{written-fits}
+use Rattle.sheet.proofs.Calling.{written-fits}
 use borrow.Author.Needs.{needs}
 use Rattle.depot_sheet.proofs.print_report.Statement.{statement}
 use Rattle.depot_sheet.proofs.print_report.Tie as tie

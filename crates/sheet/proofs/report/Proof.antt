@@ -2,7 +2,7 @@
 use mathlib.Core.Path.{sym}
 use denote.Ref.{now}
 use Rattle.sheets.specs.Report.{report}
-use Rattle.sheet.proofs.Reporting.{small-told, stored-told}
+use Rattle.sheet.proofs.Calling.{small-told, stored-told}
 use borrow.Author.Needs.{needs}
 use Rattle.sheet.proofs.report.Statement.{statement}
 use Rattle.sheet.proofs.report.Tie as tie

@@ -3,7 +3,7 @@ use mathlib.Core.Path.{_≡_, sym, ap, _∙_}
 use denote.Ref.{now}
 use Rattle.answer.specs.Told.{given}
 use Rattle.sheets.specs.Report.{report}
-use Rattle.sheet.proofs.Reporting.{count-refused, count-written}
+use Rattle.sheet.proofs.Calling.{count-refused, count-written}
 use borrow.Author.Needs.{needs}
 use Rattle.sheet.proofs.sheet_report.Statement.{statement}
 use Rattle.sheet.proofs.sheet_report.Tie as tie

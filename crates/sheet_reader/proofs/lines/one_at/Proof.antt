@@ -35,9 +35,10 @@ number-at-requires c κs = omega arith
 
 returns-3 : tie.Need-returns-3
 returns-3 c =
-    let a = c .before .before .before .before .before .args in
-    let e = c .number-at .ensures in
-    (e .0 ∙ sym (form-one (now (a .s)) (a .at) (omega arith) (c .before .if2 .left)), λ y. e .1)
+    let n = c .before in
+    let a = n .before .before .before .before .before .args in
+    let e = n .number-at .ensures in
+    (e .0 ∙ sym (form-one (now (a .s)) (a .at) (omega arith) (n .before .if2 .left)), λ y. e .1)
 
 pub one-at-spec : {M : Type 1} → statement M
 one-at-spec = tie.close (tie.spec add-if1 returns add-if2 shared-slice-read-if2 returns-2 number-at-requires returns-3)

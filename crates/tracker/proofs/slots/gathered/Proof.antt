@@ -7,8 +7,8 @@ use Rattle.scalar.specs.Number.{+0}
 use Rattle.answer.proofs.Tables.{Filling, filling-none, filling-more, filling-all}
 use Rattle.algebra.specs.Matrix.{at}
 use Rattle.layout.proofs.Rows.{ends-within}
-use Rattle.tracker.proofs.gathered.Statement.{statement}
-use Rattle.tracker.proofs.gathered.Tie as tie
+use Rattle.tracker.proofs.slots.gathered.Statement.{statement}
+use Rattle.tracker.proofs.slots.gathered.Tie as tie
 
 abbrev Inv-loop : tie.InvT-loop
 Inv-loop b w count out₀ k₀ out k = Filling 64 +0 (λ i. at b (i * w)) count k out

@@ -3,8 +3,8 @@ use mathlib.Core.Path.{refl}
 use native.Mathlib.Omega.{arith}
 use borrow.Author.Needs.{needs}
 use Rattle.tracker.proofs.Searching.{rejected-two, accepted-two, Searching, searching-start, searching-more, searching-found, searching-none}
-use Rattle.tracker.proofs.latest_rejected.Statement.{statement}
-use Rattle.tracker.proofs.latest_rejected.Tie as tie
+use Rattle.tracker.proofs.slots.latest_rejected.Statement.{statement}
+use Rattle.tracker.proofs.slots.latest_rejected.Tie as tie
 
 abbrev Inv-loop : tie.InvT-loop
 Inv-loop slots stored k₀ k = Searching slots stored k

@@ -4,8 +4,8 @@ use native.Mathlib.Omega.{arith}
 use lib.ListN.{length-set}
 use Rattle.layout.proofs.Places.{set-placed, placed-next}
 use Rattle.duty.specs.Buffer.{pairNumbers, slotNumbers}
-use Rattle.tracker.proofs.put_slot.Statement.{statement}
-use Rattle.tracker.proofs.put_slot.Tie as tie
+use Rattle.tracker.proofs.slots.put_slot.Statement.{statement}
+use Rattle.tracker.proofs.slots.put_slot.Tie as tie
 
 returns : tie.Need-returns
 unfolding pairNumbers slotNumbers
