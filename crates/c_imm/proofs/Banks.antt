@@ -32,7 +32,7 @@ use Rattle.steps.specs.Step.{wellSized}
 use Rattle.steps.proofs.Sizes as Sizes
 use Rattle.imm_steps.specs.Bank.{bankRows, rowsOf}
 use Rattle.imm_steps.proofs.Holders.{Held}
-use Rattle.c_imm.specs.Bank.{modelPlace, probabilitiesPlace, isBank, isBankWith, isModel, isParts, estimateAt, bankAt, statesIn, covariancesIn, likelihoodsIn}
+use Rattle.c_imm.specs.Bank.{modelPlace, probabilitiesPlace, isBank, isBankWith, isModel, isParts, estimateAt, bankAt, statesIn, covariancesIn}
 
 -- ---- the products of the sizes are small
 pub record Few (n m k : ℕ) : Type 0 where
@@ -86,6 +86,16 @@ module _ (n m k : ℕ) (b : List Float) (W : Whole n m k (length b)) (sn sk : Si
   K : ℕ
   K = count sk
 
+  -- by the rows of each model
+  pub held-of : (x : List (List Float)) (p : List (List (List Float))) → ((i : ℕ) → i < count sk → cut (count sn) (row x i) ≡ vectorAt n b (modelPlace n i 1))
+      → ((i : ℕ) → i < count sk → used (count sn) (count sn) (getD p i []) ≡ matrixAt n n b (modelPlace n i 2)) → Held sn sk x p n k (bankAt n m k b)
+  held-of x p ex ep = record {
+    states = en;
+    models = ek;
+    estimates = table-ext (count sk) (λ i. estimate (cut (count sn) (row x i)) (used (count sn) (count sn) (getD p i []))) (λ i. estimateAt n b i) (λ i h. ap₂ estimate (ex i h) (ep i h))
+        ∙ ap (λ (k : ℕ). table k (λ i. estimateAt n b i)) ek;
+  }
+
   module _ {x : List (List Float)} {p : List (List (List Float))}
       (ex : x ≡ statesIn (count sn) (count sk) b)
       (ep : p ≡ covariancesIn (count sn) (count sk) b) where
@@ -102,7 +112,7 @@ module _ (n m k : ℕ) (b : List Float) (W : Whole n m k (length b)) (sn sk : Si
         f : ℕ → List Float
         f i = padRow (vectorIn (count sn) b (modelPlace (count sn) i 1))
 
-    covariance-read : (i : ℕ) → i < count sk → used (count sn) (count sn) (getD p i []) ≡ matrixAt n n b (modelPlace n i 2)
+    pub covariance-read : (i : ℕ) → i < count sk → used (count sn) (count sn) (getD p i []) ≡ matrixAt n n b (modelPlace n i 2)
     covariance-read i h =
         let place : modelPlace (count sn) i 1 + count sn ≡ modelPlace n i 2 = ap (λ (n : ℕ). modelPlace n i 1 + n) en ∙ omega arith in
         let there : modelPlace (count sn) i 1 + count sn + n * n ≤ length b = omega (arith, place, W .long, model-within n k i (omega (arith, ek))) in
@@ -116,30 +126,30 @@ module _ (n m k : ℕ) (b : List Float) (W : Whole n m k (length b)) (sn sk : Si
         f i = pad (matrixIn (count sn) (count sn) b (modelPlace (count sn) i 1 + count sn))
 
     pub held : Held sn sk x p n k (bankAt n m k b)
-    held = record {
-      states = en;
-      models = ek;
-      estimates = table-ext (count sk) (λ i. estimate (cut (count sn) (row x i)) (used (count sn) (count sn) (getD p i []))) (λ i. estimateAt n b i) (λ i h. ap₂ estimate (state-read i h) (covariance-read i h))
-          ∙ ap (λ (k : ℕ). table k (λ i. estimateAt n b i)) ek;
-    }
+    held = held-of x p state-read covariance-read
 
-  -- the likelihoods
-  pub likelihoods-read : {l : List Float} → l ≡ likelihoodsIn (count sn) (count sk) b → cut (count sk) l ≡ bankAt n m k b .likelihoods
+  -- four numbers for each model are its state, for the sizes up to four
+  pub states-read : {x : List (List Float)} {l : ℕ} → l ≡ modelLength n → x ≡ padTo 4 (replicate 4 +0) (table (count sk) (λ i. vectorAt 4 b (n * n + i * l)))
+      → (i : ℕ) → i < count sk → cut (count sn) (row x i) ≡ vectorAt n b (modelPlace n i 1)
   unfolding cut
-  likelihoods-read {l} e =
-      ap (cut (count sk)) e
-      ∙ cut-padRow (count sk) (table (count sk) f) (length-table (count sk) f)
-      ∙ table-ext (count sk) f (λ i. at b (modelPlace n i 4)) one
-      ∙ ap (λ (k : ℕ). table k (λ i. at b (modelPlace n i 4))) ek
+  states-read {x} {l} el ex i h =
+      let place : n * n + i * l ≡ modelPlace n i 1 = ap (λ (l : ℕ). n * n + i * l) el ∙ omega arith in
+      ap (λ (y : List (List Float)). cut (count sn) (row y i)) ex
+      ∙ ap (cut (count sn)) (getD-padTo 4 (replicate 4 +0) (table (count sk) f) i [] (rw (length-table (count sk) f) h) ∙ getD-table (count sk) f i [] h)
+      ∙ table-ext (count sn) (λ j. at (f i) j) (λ j. at b (n * n + i * l + j)) (λ j g. getD-table 4 (λ j. at b (n * n + i * l + j)) j nan (le-trans g (bounds sn .most)))
+      ∙ ap₂ (λ (c q : ℕ). vectorAt c b q) en place
     where
-      f : ℕ → Float
-      f i = at (padRow (vectorIn 1 b (modelPlace (count sn) i 4))) 0
+      f : ℕ → List Float
+      f i = vectorAt 4 b (n * n + i * l)
 
-      one : (i : ℕ) → i < count sk → f i ≡ at b (modelPlace n i 4)
-      one i h =
-          let place : modelPlace (count sn) i 4 ≡ modelPlace n i 4 = ap (λ (n : ℕ). modelPlace n i 4) en in
-          let there : modelPlace (count sn) i 4 + 1 ≤ length b = omega (arith, place, W .long, model-within n k i (omega (arith, ek))) in
-          ap (λ (v : Vector). at v 0) (vector-used (modelPlace (count sn) i 4) b {j = 1} refl there refl) ∙ ap (λ (j : ℕ). at b j) (omega (arith, place))
+  -- one number for each, which stands at g i
+  pub numbers-read : (q l : ℕ) (g : ℕ → ℕ) {v : List Float} → v ≡ padRow (table (count sk) (λ i. at b (q + i * l))) → ((i : ℕ) → q + i * l ≡ g i)
+      → cut (count sk) v ≡ table k (λ i. at b (g i))
+  numbers-read q l g e p =
+      ap (cut (count sk)) e
+      ∙ cut-padRow (count sk) (table (count sk) (λ i. at b (q + i * l))) (length-table (count sk) (λ i. at b (q + i * l)))
+      ∙ table-ext (count sk) (λ i. at b (q + i * l)) (λ i. at b (g i)) (λ i h. ap (at b) (p i))
+      ∙ ap (λ (k : ℕ). table k (λ i. at b (g i))) ek
 
 -- a test t before a further one
 pub and-tested : (a b : Bool) {t u : Bool} → t ≡ a → t ≡ true → u ≡ b → u ≡ a && b

@@ -1,3 +1,4 @@
+pub mod Spaced
 pub mod Banks
 pub mod Puts
 pub mod Steps

@@ -2,13 +2,13 @@
 use mathlib.Core.Path.{_≡_, refl, sym, ap, ap₂, _∙_, subst}
 use mathlib.Core.List.{List, [], _∷_}
 use mathlib.Core.Bool.{Bool, true, false, cond}
-use Prim.Native.Nat.{ℕ, _+_, _*_, _≤_, _<_}
+use Prim.Native.Nat.{ℕ, _+_, _-_, _*_, _≤_, _<_}
 use native.Mathlib.Nat.{le-trans}
 use native.Mathlib.Omega.{arith}
-use lib.ListN.{length, getD}
+use lib.ListN.{length, getD, replicate}
 use lib.Ieee.{Float, lt}
-use Rattle.scalar.specs.Number.{_⊗_, _⊘_, epsilon}
-use Rattle.answer.specs.Table.{table}
+use Rattle.scalar.specs.Number.{_⊗_, _⊘_, +0, epsilon}
+use Rattle.answer.specs.Table.{table, padTo}
 use Rattle.answer.proofs.Tables.{getD-table, length-table}
 use Rattle.algebra.specs.Matrix.{Vector, Matrix, at, row, sumOf}
 use Rattle.algebra.specs.Array.{cut, used, padRow, pad}
@@ -25,8 +25,8 @@ use Rattle.layout.proofs.Places.{placed-whole}
 use Rattle.layout.proofs.Calls.{vector-used, vector-put, part-read}
 use Rattle.imm_steps.specs.Bank.{bankRows, rowsOf, mixedRows}
 use Rattle.imm_steps.proofs.Holders.{mixed-held, fused-held, probabilities-held}
-use Rattle.c_imm.specs.Bank.{probabilitiesPlace, bankAt, transitionAt, statesIn, covariancesIn, likelihoodsIn, withEstimates, withProbabilities, withBank}
-use Rattle.c_imm.proofs.Banks.{Whole, held, likelihoods-read}
+use Rattle.c_imm.specs.Bank.{probabilitiesPlace, bankAt, modelPlace, transitionAt, statesIn, covariancesIn, withEstimates, withProbabilities, withBank}
+use Rattle.c_imm.proofs.Banks.{Whole, held, held-of, covariance-read, states-read, numbers-read}
 use Rattle.c_imm.proofs.Puts.{length-uniform, with-same}
 
 -- ---- how long the results are
@@ -107,21 +107,28 @@ module _ (n m k : ℕ) (b : List Float) (W : Whole n m k (length b)) (sn sk : Si
         numbers-put sk (M .probabilities) μ′ b₁ ek ef (omega (arith, long, W .long)) (length-predicted n k (transitionAt n m k b) B) (λ t. mixed-rows t .1 .1) d
         ∙ ap (λ (c : List Float). withProbabilities n m k c M) (e ∙ ap₂ (λ (i j : ℕ). withEstimates i j b (bankRows sn sk x′ p′ [] [])) en ek ∙ with-same n b (bankRows sn sk x′ p′ [] []) M k model-mixed)
 
-  -- ---- the probabilities
-  pub updates : {l μ μ′ b₁ : List Float} → l ≡ likelihoodsIn (count sn) (count sk) b
-      → μ ≡ padRow (vectorIn (count sk) b from)
+  -- ---- the probabilities, read one by one
+  pub probabilities-are : {μ : List Float} → μ ≡ padRow (table (count sk) (λ i. at b (from + i * 1))) → cut (count sk) μ ≡ B .probabilities
+  probabilities-are e = numbers-read n m k b W sn sk en ek from 1 (λ i. probabilitiesPlace n m k + i) e (λ i. omega (arith, ef))
+
+  likelihoods-are : {l : List Float} {q : ℕ} → q ≡ modelLength n → l ≡ padRow (table (count sk) (λ i. at b (q - 1 + i * q))) → cut (count sk) l ≡ B .likelihoods
+  likelihoods-are {l} {q} d e = numbers-read n m k b W sn sk en ek (q - 1) q (λ i. modelPlace n i 4) e (λ i. ap (λ (q : ℕ). q - 1 + i * q) d ∙ omega arith)
+
+  pub updates : {l μ μ′ b₁ : List Float} {q : ℕ} → q ≡ modelLength n → l ≡ padRow (table (count sk) (λ i. at b (q - 1 + i * q)))
+      → μ ≡ padRow (table (count sk) (λ i. at b (from + i * 1)))
       → μ′ ≡ padRow (updateProbabilities (count sk) (bankRows sk sk [] [] l μ) .probabilities)
       → b₁ ≡ putAt from (cut (count sk) μ′) b → b₁ ≡ withProbabilities n m k b (updateProbabilities k B)
-  updates {l} {μ} {μ′} e eμ s d =
+  updates {l} {μ} {μ′} eq e eμ s d =
       numbers-put sk (updateProbabilities k B .probabilities) μ′ b ek ef (omega (arith, W .long)) (length-updated k B)
-      (s ∙ ap padRow (probabilities-held sk B l μ ek (likelihoods-read n m k b W sn sk en ek e) (probabilities-read eμ))) d
+      (s ∙ ap padRow (probabilities-held sk B l μ ek (likelihoods-are eq e) (probabilities-are eμ))) d
 
   -- ---- the fused state
-  pub fuses : {x : List (List Float)} {μ v : List Float} (o : List Float) {o₁ : List Float}
-      → x ≡ statesIn (count sn) (count sk) b
-      → μ ≡ padRow (vectorIn (count sk) b from)
+  pub fuses : {x : List (List Float)} {μ v : List Float} {l : ℕ} (o : List Float) {o₁ : List Float} → l ≡ modelLength n
+      → x ≡ padTo 4 (replicate 4 +0) (table (count sk) (λ i. vectorAt 4 b (n * n + i * l)))
+      → μ ≡ padRow (table (count sk) (λ i. at b (from + i * 1)))
       → v ≡ padRow (weighted (count sn) (count sk) (bankRows sn sk x [] [] []) (cut (count sk) μ)) → length o ≡ n
       → o₁ ≡ putAt 0 (cut (count sn) v) o → o₁ ≡ fusedEstimate n k B
-  fuses {x} {μ} {v} o ex eμ s l d =
-      numbers-put sn (fusedEstimate n k B) v o en refl (omega (arith, l)) (length-fused n k B) (s ∙ ap padRow (fused-held (held n m k b W sn sk en ek ex refl) μ (probabilities-read eμ))) d
+  fuses {x} {μ} {v} o el ex eμ s l d =
+      let h = held-of n m k b W sn sk en ek x (covariancesIn (count sn) (count sk) b) (states-read n m k b W sn sk en ek el ex) (covariance-read n m k b W sn sk en ek refl refl) in
+      numbers-put sn (fusedEstimate n k B) v o en refl (omega (arith, l)) (length-fused n k B) (s ∙ ap padRow (fused-held h μ (probabilities-are eμ))) d
       ∙ placed-whole (fusedEstimate n k B) o (length-fused n k B ∙ sym l)

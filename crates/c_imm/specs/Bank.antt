@@ -68,9 +68,6 @@ statesIn n k b = padTo 4 (replicate 4 +0) (table k (λ i. padRow (vectorIn n b (
 abbrev pub covariancesIn : ℕ → ℕ → List Float → List (List (List Float))
 covariancesIn n k b = padTo 4 (replicate 4 (replicate 4 +0)) (table k (λ i. pad (matrixIn n n b (modelPlace n i 1 + n))))
 
-abbrev pub likelihoodsIn : ℕ → ℕ → List Float → List Float
-likelihoodsIn n k b = padTo 4 +0 (table k (λ i. at (padRow (vectorIn 1 b (modelPlace n i 4))) 0))
-
 -- the estimates and the transition of two models of one road
 abbrev pub roadsIn : List Float → Estimate × (Estimate × Matrix)
 roadsIn b = (estimateAt 2 b 0, (estimateAt 2 b 1, matrixAt 2 2 b 30))

@@ -4,15 +4,19 @@
 ghost use mathlib.Core.Path.{_≡_};
 ghost use mathlib.Core.Bool.{true};
 ghost use mathlib.Core.List.{[], _++_};
-ghost use Prim.Native.Nat.{_+_, _*_, _≤_};
-ghost use lib.ListN.{length};
+ghost use Prim.Native.Nat.{_+_, _*_, _≤_, _<_};
+ghost use lib.ListN.{length, replicate};
 ghost use Rattle.answer.specs.Told.{given};
+ghost use Rattle.scalar.specs.Number.{+0};
+ghost use Rattle.answer.specs.Table.{table, padTo};
+ghost use Rattle.algebra.specs.Matrix.{at};
+ghost use Rattle.algebra.specs.Array.{padRow};
 ghost use Rattle.sizes.specs.Size.{count};
-ghost use Rattle.layout.specs.Layout.{joined, placed, total, modelLength, bankParts};
+ghost use Rattle.layout.specs.Layout.{vectorAt, joined, placed, total, modelLength, bankParts};
 ghost use Rattle.steps.specs.Step.{wellSized};
 ghost use Rattle.road.specs.Road.{matrixOf, estimateOf};
 ghost use Rattle.imm_steps.specs.Bank.{bankRows};
-ghost use Rattle.c_imm.specs.Bank.{modelPlace, probabilitiesPlace, isBank, isParts, isRoads, statesIn, covariancesIn, likelihoodsIn, roadsIn, withEstimates, withBank, mixedIn};
+ghost use Rattle.c_imm.specs.Bank.{modelPlace, probabilitiesPlace, isBank, isParts, isRoads, statesIn, covariancesIn, roadsIn, withEstimates, withBank, mixedIn};
 ghost use Rattle.c_imm.specs.Bank.{mixIn, probabilitiesIn, fusedIn, probabilityIn, newIn};
 use road::Pair;
 use road::Two;
@@ -65,6 +69,57 @@ fn is_bank(n: usize, m: usize, k: usize, len: usize) -> bool
     }
 }
 
+// ---- numbers that stand step by step in a slice, one for each model
+
+// Four numbers are read whatever the size, so that no size is asked for: those that are not used are ignored.
+fn four_at(b: &[f64], k: usize) -> [f64; 4]
+    requires { ⌜ (k ≤ 268) × (k + 4 ≤ length (now b)) ⌝ }
+    ensures { λ v. ⌜ v ≡ vectorAt 4 (now (b .entry)) k ⌝ }
+{
+    [b[k], b[k + 1], b[k + 2], b[k + 3]]
+}
+
+// Four numbers for each of m models, from number k on.
+fn rows_at(b: &[f64], k: usize, step: usize, m: Size) -> [[f64; 4]; 4]
+    requires { ⌜ ((k ≤ 20) × (step ≤ 53)) × (k + count m * step + 4 ≤ length (now b) + step) ⌝ }
+    ensures { λ r. ⌜ r ≡ padTo 4 (replicate 4 +0) (table (count m) (λ i. vectorAt 4 (now (b .entry)) (k + i * step))) ⌝ }
+{
+    let models = number(m);
+    let none = [0.0; 4];
+    let r0 = four_at(b, k);
+    if models < 2 {
+        return [r0, none, none, none];
+    }
+    let r1 = four_at(b, k + step);
+    if models < 3 {
+        return [r0, r1, none, none];
+    }
+    let r2 = four_at(b, k + 2 * step);
+    if models < 4 {
+        return [r0, r1, r2, none];
+    }
+    let r3 = four_at(b, k + 3 * step);
+    [r0, r1, r2, r3]
+}
+
+// One number for each.
+fn numbers_at(b: &[f64], k: usize, step: usize, m: Size) -> [f64; 4]
+    requires { ⌜ ((k ≤ 260) × (step ≤ 53)) × (k + count m * step < length (now b) + step) ⌝ }
+    ensures { λ v. ⌜ v ≡ padRow (table (count m) (λ i. at (now (b .entry)) (k + i * step))) ⌝ }
+{
+    let models = number(m);
+    if models < 2 {
+        return [b[k], 0.0, 0.0, 0.0];
+    }
+    if models < 3 {
+        return [b[k], b[k + step], 0.0, 0.0];
+    }
+    if models < 4 {
+        return [b[k], b[k + step], b[k + 2 * step], 0.0];
+    }
+    [b[k], b[k + step], b[k + 2 * step], b[k + 3 * step]]
+}
+
 // ---- rows out of a slice, and back
 
 fn states_at(bank: &[f64], n: Size, k: Size) -> [[f64; 4]; 4]
@@ -89,20 +144,6 @@ fn covariances_at(bank: &[f64], n: Size, k: Size) -> [[[f64; 4]; 4]; 4]
         p[i] = layout::matrix_at(bank, state_place(states, i) + states, n, n);
     }
     p
-}
-
-fn likelihoods_at(bank: &[f64], n: Size, k: Size) -> [f64; 4]
-    ensures { λ l. ⌜ l ≡ likelihoodsIn (count n) (count k) (now (bank .entry)) ⌝ }
-{
-    let models = number(k);
-    let states = number(n);
-    let mut l = [0.0; 4];
-    for i in 0..models {
-        let place = state_place(states, i) + (states + states * states) + states * states;
-        let one = layout::vector_at(bank, place, Size::One);
-        l[i] = one[0];
-    }
-    l
 }
 
 // The estimates x and p of k models of n states, each in its place.
@@ -237,8 +278,9 @@ pub fn imm_update_probabilities(n: usize, m: usize, k: usize, bank: &mut [f64]) 
     if is_bank(n, m, k, bank.len()) {
         let from = probabilities_place(n, m, k);
         let sk = size_of(k);
-        let l = likelihoods_at(bank, size_of(n), sk);
-        let mut mu = layout::vector_at(bank, from, sk);
+        let length = model_length(n);
+        let l = numbers_at(bank, length - 1, length, sk);
+        let mut mu = numbers_at(bank, from, 1, sk);
         imm_steps::update_probabilities(l, sk, &mut mu);
         layout::put_vector(bank, from, mu, sk);
         0
@@ -257,8 +299,8 @@ pub fn imm_fused_estimate(n: usize, m: usize, k: usize, bank: &[f64], out: &mut 
         if out.len() == n {
             let sn = size_of(n);
             let sk = size_of(k);
-            let x = states_at(bank, sn, sk);
-            let mu = layout::vector_at(bank, probabilities_place(n, m, k), sk);
+            let x = rows_at(bank, n * n, model_length(n), sk);
+            let mu = numbers_at(bank, probabilities_place(n, m, k), 1, sk);
             let fused = imm_steps::weighted(&x, mu, sn, sk);
             layout::put_vector(out, 0, fused, sn);
             return 0;
