@@ -29,13 +29,19 @@ fn predict_rows(n: usize, m: usize, i: usize, filter: &mut [f64], u: &[f64]) -> 
         let from = c_copies::place_of(n, m, i);
         let sn = size_of(n);
         let si = size_of(i);
-        let a = layout::matrix_at(filter, 0, sn, sn);
-        let b = layout::matrix_at(filter, n * n, sn, si);
-        let q = layout::matrix_at(filter, n * n + n * i + m * n, sn, sn);
         let v = layout::vector_at(u, 0, si);
         let mut x = layout::vector_at(filter, from, sn);
         let mut p = layout::matrix_at(filter, from + n, sn, sn);
-        steps::predict(&a, &b, &q, &v, sn, si, &mut x, &mut p);
+        steps::predict(
+            &layout::matrix_at(filter, 0, sn, sn),
+            &layout::matrix_at(filter, n * n, sn, si),
+            &layout::matrix_at(filter, n * n + n * i + m * n, sn, sn),
+            &v,
+            sn,
+            si,
+            &mut x,
+            &mut p,
+        );
         layout::put_pair(filter, from, x, &p, sn);
         0
     } else {
@@ -62,12 +68,18 @@ fn update_rows(
         let from = c_copies::place_of(n, m, i);
         let sn = size_of(n);
         let sm = size_of(m);
-        let h = layout::matrix_at(filter, n * n + n * i, sm, sn);
-        let r = layout::matrix_at(filter, n * n + n * i + m * n + n * n, sm, sm);
         let v = layout::vector_at(z, 0, sm);
         let mut x = layout::vector_at(filter, from, sn);
         let mut p = layout::matrix_at(filter, from + n, sn, sn);
-        let answer = steps::update(&h, &r, &v, sn, sm, &mut x, &mut p);
+        let answer = steps::update(
+            &layout::matrix_at(filter, n * n + n * i, sm, sn),
+            &layout::matrix_at(filter, n * n + n * i + m * n + n * n, sm, sm),
+            &v,
+            sn,
+            sm,
+            &mut x,
+            &mut p,
+        );
         let status = answer.status;
         match status {
             Status::Done => {

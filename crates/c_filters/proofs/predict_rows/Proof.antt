@@ -27,20 +27,20 @@ unfolding predict
 returns c =
     let put = c .before .before in
     let step = put .before .before .before in
-    let p = step .before .before .before .before .before .before .before in
+    let q = step .before .before .before .before .before in
+    let b = q .before .before .before in
+    let a = b .before .before .before in
+    let p = a .before .before in
     let x = p .before .before in
     let v = x .before .before in
-    let q = v .before in
-    let b = q .before .before in
-    let a = b .before .before in
-    let si = a .before .before in
+    let si = v .before in
     let sn = si .before in
     let k = sn .before in
     let t = k .before in
     let g = t .before .before .before .before .args in
     let s = test t in
     let is = predicts (g .n) (g .m) (g .i) (g .filter .now) (s .whole) (sn .size-of .ensures) refl (si .size-of2 .ensures) (place-is (g .n) (g .m) (g .i) (s .whole .sizes) (k .place-of .ensures)) (g .u .now) (s .same)
-    (a .matrix-at .ensures) (b .matrix-at2 .ensures) (q .matrix-at3 .ensures) (v .vector-at .ensures) (x .vector-at2 .ensures) (p .matrix-at4 .ensures) (step .predict .ensures) (put .put-pair .ensures) in
+    (a .matrix-at2 .ensures) (b .matrix-at3 .ensures) (q .matrix-at4 .ensures) (v .vector-at .ensures) (x .vector-at2 .ensures) (p .matrix-at .ensures) (step .predict .ensures) (put .put-pair .ensures) in
     (λ j. (0, is j)) ∙ ap (by (g .n) (g .m) (g .i) (g .filter .now) (g .u .now)) (sym (sym (t .before .is-step .ensures) ∙ t .if1 .taken))
 
 returns-2 : tie.Need-returns-2
@@ -50,8 +50,8 @@ pub predict-rows-spec : {M : Type 1} → statement M
 predict-rows-spec =
     tie.close
     (tie.spec (λ c κs. search needs) (λ c κs. search needs)
-    (λ c κs. search needs) (λ c κs. search needs) (λ c κs. search needs) (λ c. omega (arith, test (c .before .before .before .before .before .before) .whole .few)) (λ c κs. search needs)
-    (λ c. omega (arith, test (c .before .before .before .before .before .before .before .before) .whole .few)) (λ c. omega (arith, test (c .before .before .before .before .before .before .before .before) .whole .few)) (λ c. omega (arith, test (c .before .before .before .before .before .before .before .before) .whole .few)) (λ c. omega (arith, test (c .before .before .before .before .before .before .before .before) .whole .few)) (λ c. omega (arith, test (c .before .before .before .before .before .before .before .before) .whole .few))
-    (λ c κs. search needs) (λ c κs. search needs) (λ c κs. search needs)
-    (λ c. let k = c .before .before .before .before .before .before .before .before .before .before .before .before in let w = test (k .before) .whole in omega (arith, w .few, place-is _ _ _ (w .sizes) (k .place-of .ensures), place-small _ _ _ (w .sizes)))
+    (λ c κs. search needs) (λ c κs. search needs) (λ c κs. search needs) (λ c κs. search needs)
+    (λ c. let k = c .before .before .before .before .before .before in let w = test (k .before) .whole in omega (arith, w .few, place-is _ _ _ (w .sizes) (k .place-of .ensures), place-small _ _ _ (w .sizes)))
+    (λ c κs. search needs) (λ c κs. search needs) (λ c. search needs) (λ c κs. search needs)
+    (λ c. search needs) (λ c. search needs) (λ c. search needs) (λ c. search needs) (λ c. search needs)
     (λ c κs. search needs) (λ c κs. search needs) (λ c κs. search needs) (λ c. search needs) returns returns-2)

@@ -48,19 +48,19 @@ returns c =
     let put = vec .before .before .before .before .before in
     let told = put .before .before .before in
     let step = told .before .before in
-    let p = step .before .before .before .before .before .before in
+    let r = step .before .before .before .before .before in
+    let h = r .before .before .before in
+    let p = h .before .before in
     let x = p .before .before in
     let v = x .before .before in
-    let r = v .before in
-    let h = r .before .before in
-    let sm = h .before .before in
+    let sm = v .before in
     let sn = sm .before in
     let k = sn .before in
     let t = k .before in
     let g = t .before .before .before .before .before .before .args in
     let s = test t in
     updates (g .n) (g .m) (g .i) (g .filter .now) (s .whole) (sn .size-of .ensures) (sm .size-of2 .ensures) refl (place-is (g .n) (g .m) (g .i) (s .whole .sizes) (k .place-of .ensures)) (g .z .now) (s .same)
-    (h .matrix-at .ensures) (r .matrix-at2 .ensures) (v .vector-at .ensures) (x .vector-at2 .ensures) (p .matrix-at3 .ensures) (step .update .ensures) (g .innovation .now) (room t) (told .enum-told .given .1)
+    (h .matrix-at2 .ensures) (r .matrix-at3 .ensures) (v .vector-at .ensures) (x .vector-at2 .ensures) (p .matrix-at .ensures) (step .update .ensures) (g .innovation .now) (room t) (told .enum-told .given .1)
     (put .put-pair .ensures) (vec .put-vector .ensures)
     ∙ ap (by (g .n) (g .m) (g .i) (g .filter .now) (g .z .now) (g .innovation .now)) (sym (passed t))
 
@@ -68,19 +68,19 @@ returns-2 : tie.Need-returns-2
 returns-2 c =
     let told = c .before in
     let step = told .before .before in
-    let p = step .before .before .before .before .before .before in
+    let r = step .before .before .before .before .before in
+    let h = r .before .before .before in
+    let p = h .before .before in
     let x = p .before .before in
     let v = x .before .before in
-    let r = v .before in
-    let h = r .before .before in
-    let sm = h .before .before in
+    let sm = v .before in
     let sn = sm .before in
     let k = sn .before in
     let t = k .before in
     let g = t .before .before .before .before .before .before .args in
     let s = test t in
     refuses (g .n) (g .m) (g .i) (g .filter .now) (s .whole) (sn .size-of .ensures) (sm .size-of2 .ensures) refl (place-is (g .n) (g .m) (g .i) (s .whole .sizes) (k .place-of .ensures)) (g .z .now) (s .same)
-    (h .matrix-at .ensures) (r .matrix-at2 .ensures) (v .vector-at .ensures) (x .vector-at2 .ensures) (p .matrix-at3 .ensures) (step .update .ensures) (g .innovation .now) (told .status .given .1)
+    (h .matrix-at2 .ensures) (r .matrix-at3 .ensures) (v .vector-at .ensures) (x .vector-at2 .ensures) (p .matrix-at .ensures) (step .update .ensures) (g .innovation .now) (told .status .given .1)
     ∙ ap (by (g .n) (g .m) (g .i) (g .filter .now) (g .z .now) (g .innovation .now)) (sym (passed t))
 
 returns-3 : tie.Need-returns-3
@@ -92,10 +92,9 @@ pub update-rows-spec : {M : Type 1} → statement M
 update-rows-spec =
     tie.close
     (tie.spec (λ c κs. search needs) (λ c κs. search needs) (λ c κs. search needs)
-    (λ c κs. search needs) (λ c κs. search needs) (λ c. omega (arith, test (c .before .before .before .before) .whole .few)) (λ c. omega (arith, test (c .before .before .before .before) .whole .few)) (λ c. omega (arith, test (c .before .before .before .before) .whole .few))
-    (λ c κs. search needs) (λ c. omega (arith, test (c .before .before .before .before .before .before) .whole .few)) (λ c. omega (arith, test (c .before .before .before .before .before .before) .whole .few)) (λ c. omega (arith, test (c .before .before .before .before .before .before) .whole .few)) (λ c. omega (arith, test (c .before .before .before .before .before .before) .whole .few))
-    (λ c. omega (arith, test (c .before .before .before .before .before .before) .whole .few)) (λ c. omega (arith, test (c .before .before .before .before .before .before) .whole .few)) (λ c. omega (arith, test (c .before .before .before .before .before .before) .whole .few)) (λ c κs. search needs) (λ c κs. search needs)
-    (λ c κs. search needs)
-    (λ c. let k = c .before .before .before .before .before .before .before .before .before .before in let w = test (k .before) .whole in omega (arith, w .few, place-is _ _ _ (w .sizes) (k .place-of .ensures), place-small _ _ _ (w .sizes)))
-    (λ c κs. search needs) (λ c κs. search needs) (λ c. search needs) (λ c κs. search needs) (λ c κs. search needs)
-    (λ c. search needs) (λ c. search needs) (λ c. search needs) returns (λ c. search needs) returns-2 returns-3)
+    (λ c κs. search needs) (λ c κs. search needs) (λ c κs. search needs) (λ c κs. search needs)
+    (λ c. let k = c .before .before .before .before .before .before in let w = test (k .before) .whole in omega (arith, w .few, place-is _ _ _ (w .sizes) (k .place-of .ensures), place-small _ _ _ (w .sizes)))
+    (λ c κs. search needs) (λ c. search needs) (λ c. search needs) (λ c. search needs) (λ c κs. search needs)
+    (λ c. search needs) (λ c. search needs) (λ c. search needs) (λ c. search needs) (λ c. search needs) (λ c. search needs)
+    (λ c. search needs) (λ c κs. search needs) (λ c κs. search needs) (λ c. search needs) (λ c κs. search needs)
+    (λ c κs. search needs) (λ c. search needs) (λ c. search needs) (λ c. search needs) returns (λ c. search needs) returns-2 returns-3)
