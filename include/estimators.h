@@ -38,10 +38,10 @@
  * threads may call any of them on buffers of their own, or read one buffer together.
  *
  * Every call ends. Stack on x86-64, without what memcpy and memset use (tools/stack lists every function):
- *   sheet_report                   31.5 KB
- *   rts_smoother_smooth            12.4 KB, whatever its room
- *   imm_mix_estimates               2.6 KB
- *   every other function      less than 2 KB
+ *   sheet_report                   below 32 KB
+ *   rts_smoother_smooth            below 13 KB, whatever its room
+ *   imm_mix_estimates              below 3 KB
+ *   every other function           below 2 KB
  */
 #ifndef ESTIMATORS_H
 #define ESTIMATORS_H
