@@ -1,6 +1,6 @@
--- The two loops of the factorization: over the cells of a row and over the rows. Assumes nothing.
+-- The factorization, one cell of a row and one row at a time. Assumes nothing.
 use mathlib.Core.Path.{_≡_, refl, sym, ap, _∙_, subst⁻¹}
-use mathlib.Core.Bool.{cond}
+use mathlib.Core.Bool.{Bool, true, false, cond}
 use mathlib.Core.List.{List, [], _∷_, _++_}
 use Prim.Native.Nat.{ℕ, _+_, _≤_, _<_}
 use native.Mathlib.Decide.{le-ind}
@@ -17,19 +17,17 @@ use Rattle.algebra.specs.Array.{used, padRow, pad}
 use Rattle.answer.proofs.Tables.{table-getD, getD-padTo, set-padTo, padTo-padTo, length-padTo}
 use Rattle.algebra.proofs.Matrices.{Shape}
 use Rattle.algebra.proofs.Vectors.{dot-ext}
-use Rattle.algebra.specs.Cholesky.{diagonalOf, leftCells, factorRow, factorRows, cholesky}
+use Rattle.root.specs.Root.{root}
+use Rattle.answer.proofs.Answers.{if-true, if-false}
+use Rattle.algebra.specs.Cholesky.{noDiagonal, diagonalOf, leftCells, factorRow, factorRows, cholesky}
 use Rattle.algebra.proofs.Arrays.{set-pad, cell-pad}
+use Rattle.answer.specs.declared.Status.the-variants.{Done, Refused}
+use Rattle.matrix.specs.declared.MatrixResult.{MatrixResult}
+use Rattle.matrix.specs.Result.{matrixResult, asMatrix}
 use Rattle.rows.proofs.Kernels.{row-with}
 use Rattle.algebra.proofs.Factors.{length-left, left-ext, shape-rows, cholesky-used}
 
--- The loop over a row has made the first j of its i cells left of the diagonal: its invariant
-pub record Lefts (a : Vector) (L : Matrix) (i j : ℕ) (v : List Float) : Type 0 where
-  pub within : j ≤ i
-  pub is : v ≡ padRow (leftCells a L j)
-
-pub lefts-none : (a : Vector) (L : Matrix) (i : ℕ) → Lefts a L i 0 (replicate 4 +0)
-unfolding leftCells
-lefts-none a L i = record { within = omega arith; is = refl }
+-- ---- a row of the factor left of its diagonal, in an array of four
 
 -- what stands in a row that is filled up, before the filling
 at-padRow : (a : Vector) (L : Matrix) (j t : ℕ) → t < j → at (padRow (leftCells a L j)) t ≡ at (leftCells a L j) t
@@ -40,23 +38,43 @@ set-left a L j x h =
     let v = leftCells a L j in
     ap (λ (k : ℕ). set (padRow v) k x) (sym (length-left a L j)) ∙ set-padTo 4 +0 v x (subst⁻¹ (λ (k : ℕ). k < 4) (length-left a L j) h)
 
-pub lefts-more : {a : Vector} {L : Matrix} {i j : ℕ} {v : List Float} {s : Float} → Lefts a L i j v → i ≤ 4 → j < i → s ≡ dot j v (row L j)
-    → Lefts a L i (j + 1) (set v j ((at a j ⊖ s) ⊘ cell L j j))
+-- x put behind the cells
+put-next : (a : Vector) (L : Matrix) (j : ℕ) (x : Float) {v r : List Float} → j < 4 → v ≡ padRow (leftCells a L j)
+    → r ≡ table 4 (λ t. cond (eqb j t) x (at v t)) → r ≡ padRow (leftCells a L j ++ x ∷ [])
+put-next a L j x h e p =
+    let left = leftCells a L j in
+    let full : length (padRow left) ≡ 4 = length-padTo 4 +0 left (omega (arith, length-left a L j)) in
+    p
+    ∙ ap (λ (u : Vector). table 4 (λ t. cond (eqb j t) x (at u t))) e
+    ∙ row-with (λ t. at (padRow left) t) j x h
+    ∙ ap (λ (u : Vector). set u j x) (ap (λ (k : ℕ). table k (λ t. at (padRow left) t)) (sym full) ∙ table-getD (padRow left) nan)
+    ∙ set-left a L j x h
+
+-- no cell yet, and one more
+pub left-none : (a : Vector) (L : Matrix) → replicate 4 +0 ≡ padRow (leftCells a L 0)
 unfolding leftCells
-lefts-more {a} {L} {i} {j} {v} {s} e hi hj p =
-    let d : s ≡ dot j (leftCells a L j) (row L j) = p ∙ ap (λ (u : Vector). dot j u (row L j)) (e .is) ∙ dot-ext j _ _ _ _ (λ t h. at-padRow a L j t h) (λ t h. refl) in
-    record {
-      within = omega arith;
-      is =
-          (λ t. set (e .is t) j ((at a j ⊖ d t) ⊘ cell L j j))
-          ∙ set-left a L j _ (omega arith)
-          ∙ ap (λ (k : ℕ). padRow (leftCells a L k)) (sym (add-one j));
-    }
+left-none a L = refl
 
-pub lefts-all : {a : Vector} {L : Matrix} {i j : ℕ} {v : List Float} → Lefts a L i j v → i ≤ j → v ≡ padRow (leftCells a L i)
-lefts-all {a} {L} {i} {j} e h = let same : j ≡ i = omega arith in e .is ∙ ap (λ (k : ℕ). padRow (leftCells a L k)) same
+pub left-more : (a : Vector) (L : Matrix) (j : ℕ) {s : Float} {v r : List Float} → j < 4 → v ≡ padRow (leftCells a L j) → s ≡ dot j v (row L j)
+    → r ≡ table 4 (λ t. cond (eqb j t) ((at a j ⊖ s) ⊘ cell L j j) (at v t)) → r ≡ padRow (leftCells a L (j + 1))
+unfolding leftCells
+left-more a L j {s} {v} h e d p =
+    let same : s ≡ dot j (leftCells a L j) (row L j) = d ∙ ap (λ (u : Vector). dot j u (row L j)) e ∙ dot-ext j _ _ _ _ (λ t g. at-padRow a L j t g) (λ t g. refl) in
+    put-next a L j _ h e (p ∙ ap (λ (y : Float). table 4 (λ t. cond (eqb j t) ((at a j ⊖ y) ⊘ cell L j j) (at v t))) same)
+    ∙ ap (λ (k : ℕ). padRow (leftCells a L k)) (sym (add-one j))
 
--- The loop over the rows has stored the first i rows of the factor of a: its invariant
+-- ---- the diagonal: refused, or its root
+pub diagonal-refused : (d : Float) {t : Bool} → t ≡ noDiagonal d → t ≡ true → diagonalOf d ≡ refused 4
+unfolding diagonalOf
+diagonal-refused d e h = if-true _ _ (sym e ∙ h)
+
+pub diagonal-root : (d : Float) {x : Float} {t : Bool} → t ≡ noDiagonal d → t ≡ false → x ≡ root d → diagonalOf d ≡ answered x
+unfolding diagonalOf
+diagonal-root d e h p = if-false _ _ (sym e ∙ h) ∙ ap answered (sym p)
+
+-- ---- the rows
+
+-- l has the first i rows of the factor of a, and +0 after them
 pub record Factoring (n : ℕ) (a : Matrix) (i : ℕ) (l : List (List Float)) : Type 0 where
   pub most : n ≤ 4
   pub within : i ≤ n
@@ -91,11 +109,6 @@ module _ {n : ℕ} {a : Matrix} {i : ℕ} {l : List (List Float)} (e : Factoring
       let at-left = at-padRow (row a i) L i in
       q ∙ ap (λ (u : Vector). dot i u u) same-left ∙ dot-ext i (padRow left) (padRow left) left left at-left at-left
 
-  four-left : table 4 (λ j. at (padRow left) j) ≡ padRow left
-  four-left =
-      let full : length (padRow left) ≡ 4 = length-padTo 4 +0 left (omega (arith, length-left (row a i) L i, e .most)) in
-      ap (λ (k : ℕ). table k (λ j. at (padRow left) j)) (sym full) ∙ table-getD (padRow left) nan
-
   -- the first i + 1 rows, from what is answered for the diagonal
   abbrev and-row : Answer Float → Answer Matrix
   and-row o = mapped (λ r. L ++ r ∷ []) (mapped (λ x. padTo n +0 (left ++ x ∷ [])) o)
@@ -113,13 +126,7 @@ module _ {n : ℕ} {a : Matrix} {i : ℕ} {l : List (List Float)} (e : Factoring
       let w = left ++ x ∷ [] in
       let r = padTo n +0 w in
       let room : length w ≤ n = omega (arith, length-append left (x ∷ []), length-left (row a i) L i) in
-      let stored =
-      p
-      ∙ ap (λ (u : Vector). table 4 (λ j. cond (eqb i j) x (at u j))) same-left
-      ∙ row-with (λ j. at (padRow left) j) i x (omega arith)
-      ∙ ap (λ (u : Vector). set u i x) four-left
-      ∙ set-left (row a i) L i x (omega arith)
-      ∙ sym (padTo-padTo 4 n +0 w room (e .most)) in
+      let stored = put-next (row a i) L i x (omega (arith, e .most)) same-left p ∙ sym (padTo-padTo 4 n +0 w room (e .most)) in
       record {
         most = e .most;
         within = omega arith;
@@ -139,10 +146,17 @@ module _ {n : ℕ} {a : Matrix} {i : ℕ} {l : List (List Float)} (e : Factoring
       (λ m h r. ap (λ (f : Answer Matrix). and-then f (λ M. mapped (λ u. M ++ u ∷ []) (factorRow n (row a m) M m))) r)
       n (omega arith)
 
-pub factoring-all : {n : ℕ} {a : Matrix} {i : ℕ} {l : List (List Float)} (e : Factoring n a i l) → n ≤ i → cholesky n a ≡ answered (e .rows)
+factoring-all : {n : ℕ} {a : Matrix} {i : ℕ} {l : List (List Float)} (e : Factoring n a i l) → n ≤ i → cholesky n a ≡ answered (e .rows)
 unfolding cholesky
 factoring-all {n} {a} {i} e h = let same : n ≡ i = omega arith in ap (factorRows n a) same ∙ e .so-far
 
--- what the loop has made of the whole array for k rows is the factor of the used part, where k is n
-pub factor-at : {k n : ℕ} (a : Matrix) {o : Answer Matrix} → k ≡ n → cholesky k a ≡ o → cholesky n (used n n a) ≡ o
-factor-at {k} {n} a e p = cholesky-used n a ∙ ap (λ (m : ℕ). cholesky m a) (sym e) ∙ p
+-- ---- as a call hands it over: made of the whole array for n rows, it is the factor of the used part, where n is k
+factor-at : {n k : ℕ} (a : Matrix) {o : Answer Matrix} → n ≡ k → cholesky n a ≡ o → asMatrix (cholesky k (used k k a)) ≡ asMatrix o
+factor-at {n} {k} a e p = ap asMatrix (cholesky-used k a ∙ ap (λ (m : ℕ). cholesky m a) (sym e) ∙ p)
+
+pub all-told : {n k i : ℕ} {a : Matrix} {l : List (List Float)} {r : MatrixResult} (e : Factoring n a i l) → n ≤ i → n ≡ k → r ≡ matrixResult Done l
+    → r ≡ asMatrix (cholesky k (used k k a))
+all-told {a = a} e h same p = p ∙ ap (matrixResult Done) (e .is) ∙ sym (factor-at a same (factoring-all e h))
+
+pub refusal-told : {n k j : ℕ} (a : Matrix) {r : MatrixResult} → n ≡ k → cholesky n a ≡ refused j → r ≡ matrixResult (Refused j) (pad []) → r ≡ asMatrix (cholesky k (used k k a))
+refusal-told a same q p = p ∙ sym (factor-at a same q)
