@@ -1,5 +1,5 @@
-// The information filter on a record that the caller lends, over its methods by value. A refusal leaves the filter unchanged, but for an update's on the matrix that the
-// addition made: the addition stays.
+// The information filter on a record that the caller lends, over its methods by value. A refusal leaves the filter unchanged, but
+// for an update's on the matrix that the addition made: the addition stays.
 ghost use mathlib.Core.Path.{_≡_};
 ghost use Rattle.information_filter.specs.Record.{stepped, predicting, updateOf, updateOneOf};
 use answer::Status;
