@@ -1,1 +1,1 @@
-mod Roads
+pub mod Roads

@@ -49,9 +49,8 @@ returns-2 c = let g = c .before .before .before .before .args in ap (by (g .n) (
 pub predict-rows-spec : {M : Type 1} → statement M
 predict-rows-spec =
     tie.close
-    (tie.spec (λ c κs. search needs) (λ c κs. search needs)
-    (λ c κs. search needs) (λ c κs. search needs) (λ c κs. search needs) (λ c κs. search needs)
+    (tie.spec (λ c κs. search needs) (λ c κs. search needs) (λ c κs. search needs) (λ c κs. search needs) (λ c κs. search needs) (λ c κs. search needs)
     (λ c. let k = c .before .before .before .before .before .before in let w = test (k .before) .whole in omega (arith, w .few, place-is _ _ _ (w .sizes) (k .place-of .ensures), place-small _ _ _ (w .sizes)))
-    (λ c κs. search needs) (λ c κs. search needs) (λ c. search needs) (λ c κs. search needs)
-    (λ c. search needs) (λ c. search needs) (λ c. search needs) (λ c. search needs) (λ c. search needs)
+    (λ c κs. search needs) (λ c κs. search needs) (λ c. omega (arith, test (c .before .before .before .before .before .before .before .before .before .before .before .before) .whole .few)) (λ c κs. search needs)
+    (λ c. omega (arith, test (c .before .before .before .before .before .before .before .before .before .before .before .before .before .before .before) .whole .few)) (λ c. omega (arith, test (c .before .before .before .before .before .before .before .before .before .before .before .before .before .before .before) .whole .few)) (λ c. omega (arith, test (c .before .before .before .before .before .before .before .before .before .before .before .before .before .before .before) .whole .few)) (λ c. omega (arith, test (c .before .before .before .before .before .before .before .before .before .before .before .before .before .before .before) .whole .few)) (λ c. omega (arith, test (c .before .before .before .before .before .before .before .before .before .before .before .before .before .before .before) .whole .few))
     (λ c κs. search needs) (λ c κs. search needs) (λ c κs. search needs) (λ c. search needs) returns returns-2)
