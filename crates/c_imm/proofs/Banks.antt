@@ -1,38 +1,33 @@
 -- A bank in a slice: what its tests say, that the rows read from it are the bank, and what is put back. Assumes nothing.
-use mathlib.Core.Path.{_≡_, refl, sym, ap, ap₂, _∙_}
-use mathlib.Core.List.{List, [], _∷_, _++_}
+use mathlib.Core.Path.{_≡_, sym, ap, ap₂, _∙_}
+use mathlib.Core.List.{List, []}
 use mathlib.Core.Bool.{Bool, true, false, _&&_}
-use Prim.Native.Nat.{ℕ, zero, suc, _+_, _*_, _≤_, _<_}
+use Prim.Native.Nat.{ℕ, _+_, _*_, _≤_, _<_}
 use native.Mathlib.Nat.{mul-le-mul, le-trans}
 use native.Mathlib.Omega.{arith}
-use lib.Dec.{eqb, ltb}
-use lib.ListN.{length, getD, take, replicate}
-use native.Mathlib.Numerals.{add-one}
+use lib.Dec.{eqb}
+use lib.ListN.{length, getD, replicate}
 use lib.Ieee.{Float, nan}
-use borrow.Author.Tests.{eqb-true, ltb-true}
+use borrow.Author.Tests.{eqb-true}
 use Rattle.scalar.specs.Number.{+0}
 use Rattle.answer.specs.Table.{table, padTo}
 use Rattle.answer.proofs.Choice.{and-left, and-right}
 use Rattle.answer.proofs.Tables.{getD-table, getD-padTo, table-ext, length-table}
-use Rattle.algebra.specs.Matrix.{Vector, Matrix, at, row}
+use Rattle.algebra.specs.Matrix.{at, row}
 use Rattle.algebra.specs.Array.{cut, used, padRow, pad}
-use Rattle.algebra.proofs.Arrays.{cut-padRow, used-pad}
+use Rattle.algebra.proofs.Arrays.{cut-padRow}
 use Rattle.sizes.specs.declared.Size.{Size}
 use Rattle.sizes.specs.Size.{count}
 use Rattle.sizes.proofs.Sizes.{bounds, bounds-of}
-use Rattle.filtering.specs.Filter.{Estimate, estimate}
-use Rattle.filtering.proofs.Shapes.{Sized}
-use Rattle.mixing.specs.Mixing.{Bank, model, uniform}
-use Rattle.layout.specs.Layout.{vectorAt, matrixAt, vectorIn, matrixIn, joined, placed, putAt, total, offset, modelParts, modelLength, bankParts}
-use Rattle.layout.proofs.Places.{length-placed}
-use Rattle.layout.proofs.Rows.{ends-within, length-rows}
-use Rattle.layout.proofs.Calls.{vector-used, matrix-used, pair-put, slice-put, length-pair}
-use Rattle.layout.proofs.Parts.{Fits, none, more, next-part, all-parts}
+use Rattle.filtering.specs.Filter.{estimate}
+use Rattle.mixing.specs.Mixing.{model}
+use Rattle.layout.specs.Layout.{vectorAt, matrixAt, matrixIn, total, modelLength, bankParts}
+use Rattle.layout.proofs.Rows.{ends-within}
+use Rattle.layout.proofs.Calls.{matrix-used}
 use Rattle.steps.specs.Step.{wellSized}
 use Rattle.steps.proofs.Sizes as Sizes
-use Rattle.imm_steps.specs.Bank.{bankRows, rowsOf}
 use Rattle.imm_steps.proofs.Holders.{Held}
-use Rattle.c_imm.specs.Bank.{modelPlace, probabilitiesPlace, isBank, isBankWith, isModel, isParts, estimateAt, bankAt, statesIn, covariancesIn}
+use Rattle.c_imm.specs.Bank.{modelPlace, isBank, estimateAt, bankAt, covariancesIn}
 
 -- ---- the products of the sizes are small
 pub record Few (n m k : ℕ) : Type 0 where
@@ -96,37 +91,18 @@ module _ (n m k : ℕ) (b : List Float) (W : Whole n m k (length b)) (sn sk : Si
         ∙ ap (λ (k : ℕ). table k (λ i. estimateAt n b i)) ek;
   }
 
-  module _ {x : List (List Float)} {p : List (List (List Float))}
-      (ex : x ≡ statesIn (count sn) (count sk) b)
-      (ep : p ≡ covariancesIn (count sn) (count sk) b) where
-    state-read : (i : ℕ) → i < count sk → cut (count sn) (row x i) ≡ vectorAt n b (modelPlace n i 1)
-    state-read i h =
-        let place : modelPlace (count sn) i 1 ≡ modelPlace n i 1 = ap (λ (n : ℕ). modelPlace n i 1) en in
-        let there : modelPlace (count sn) i 1 + n ≤ length b = omega (arith, place, W .long, model-within n k i (omega (arith, ek))) in
-        vector-used (modelPlace (count sn) i 1) b en there
-        (ap (λ (y : List (List Float)). row y i) ex
-        ∙ getD-padTo 4 (replicate 4 +0) (table (count sk) f) i [] (rw (length-table (count sk) f) h)
-        ∙ getD-table (count sk) f i [] h)
-        ∙ ap (vectorAt n b) place
-      where
-        f : ℕ → List Float
-        f i = padRow (vectorIn (count sn) b (modelPlace (count sn) i 1))
-
-    pub covariance-read : (i : ℕ) → i < count sk → used (count sn) (count sn) (getD p i []) ≡ matrixAt n n b (modelPlace n i 2)
-    covariance-read i h =
-        let place : modelPlace (count sn) i 1 + count sn ≡ modelPlace n i 2 = ap (λ (n : ℕ). modelPlace n i 1 + n) en ∙ omega arith in
-        let there : modelPlace (count sn) i 1 + count sn + n * n ≤ length b = omega (arith, place, W .long, model-within n k i (omega (arith, ek))) in
-        matrix-used (modelPlace (count sn) i 1 + count sn) b en en there
-        (ap (λ (y : List (List (List Float))). getD y i []) ep
-        ∙ getD-padTo 4 (replicate 4 (replicate 4 +0)) (table (count sk) f) i [] (rw (length-table (count sk) f) h)
-        ∙ getD-table (count sk) f i [] h)
-        ∙ ap (matrixAt n n b) place
-      where
-        f : ℕ → List (List Float)
-        f i = pad (matrixIn (count sn) (count sn) b (modelPlace (count sn) i 1 + count sn))
-
-    pub held : Held sn sk x p n k (bankAt n m k b)
-    held = held-of x p state-read covariance-read
+  pub covariance-read : {p : List (List (List Float))} → p ≡ covariancesIn (count sn) (count sk) b → (i : ℕ) → i < count sk → used (count sn) (count sn) (getD p i []) ≡ matrixAt n n b (modelPlace n i 2)
+  covariance-read ep i h =
+      let place : modelPlace (count sn) i 1 + count sn ≡ modelPlace n i 2 = ap (λ (n : ℕ). modelPlace n i 1 + n) en ∙ omega arith in
+      let there : modelPlace (count sn) i 1 + count sn + n * n ≤ length b = omega (arith, place, W .long, model-within n k i (omega (arith, ek))) in
+      matrix-used (modelPlace (count sn) i 1 + count sn) b en en there
+      (ap (λ (y : List (List (List Float))). getD y i []) ep
+      ∙ getD-padTo 4 (replicate 4 (replicate 4 +0)) (table (count sk) f) i [] (rw (length-table (count sk) f) h)
+      ∙ getD-table (count sk) f i [] h)
+      ∙ ap (matrixAt n n b) place
+    where
+      f : ℕ → List (List Float)
+      f i = pad (matrixIn (count sn) (count sn) b (modelPlace (count sn) i 1 + count sn))
 
   -- four numbers for each model are its state, for the sizes up to four
   pub states-read : {x : List (List Float)} {l : ℕ} → l ≡ modelLength n → x ≡ padTo 4 (replicate 4 +0) (table (count sk) (λ i. vectorAt 4 b (n * n + i * l)))

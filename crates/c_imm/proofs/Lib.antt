@@ -1,5 +1,10 @@
 pub mod Spaced
+pub mod Series
+pub mod Serials
 pub mod Banks
 pub mod Puts
 pub mod Steps
 pub mod Roads
+pub mod Mixes
+pub mod MixCalls
+pub mod Rowing

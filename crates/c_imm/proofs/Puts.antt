@@ -1,77 +1,25 @@
 -- What is put into a slice: the estimates of a bank, model by model, and the parts of one that is made. Assumes nothing.
-use mathlib.Core.Path.{_≡_, refl, sym, ap, ap₂, _∙_}
-use mathlib.Core.List.{List, [], _∷_, _++_}
+use mathlib.Core.Path.{_≡_, ap, _∙_}
+use mathlib.Core.List.{List, [], _∷_}
 use mathlib.Core.Bool.{true, _&&_}
-use Prim.Native.Nat.{ℕ, zero, suc, _+_, _*_, _≤_, _<_}
-use native.Mathlib.Numerals.{add-one}
+use Prim.Native.Nat.{ℕ, suc, _+_, _*_, _≤_, _<_}
 use native.Mathlib.Omega.{arith}
 use lib.Dec.{eqb}
 use lib.ListN.{length, getD, take}
 use lib.Ieee.{Float}
 use borrow.Author.Tests.{eqb-true}
-use Rattle.answer.specs.Table.{table}
 use Rattle.answer.proofs.Choice.{and-left, and-right}
-use Rattle.answer.proofs.Tables.{getD-table, length-table}
-use Rattle.algebra.specs.Matrix.{row}
-use Rattle.algebra.specs.Array.{cut, used, padRow}
+use Rattle.answer.proofs.Tables.{length-table}
+use Rattle.algebra.specs.Array.{cut, padRow}
 use Rattle.algebra.proofs.Arrays.{cut-padRow}
 use Rattle.sizes.specs.declared.Size.{Size}
 use Rattle.sizes.specs.Size.{count}
-use Rattle.filtering.specs.Filter.{Estimate, estimate}
-use Rattle.mixing.specs.Mixing.{Bank, model, uniform}
+use Rattle.mixing.specs.Mixing.{uniform}
 use Rattle.layout.specs.Layout.{joined, placed, putAt, offset, modelLength, bankParts}
-use Rattle.layout.proofs.Places.{length-placed}
-use Rattle.layout.proofs.Calls.{pair-put, slice-put, length-pair}
+use Rattle.layout.proofs.Calls.{slice-put}
 use Rattle.layout.proofs.Parts.{Fits, none, more, next-part, all-parts}
-use Rattle.imm_steps.specs.Bank.{bankRows}
-use Rattle.c_imm.specs.Bank.{modelPlace, isBank, isParts, withEstimates}
-use Rattle.c_imm.proofs.Banks.{Whole, whole-of, model-within}
-
--- by the estimates alone, model by model
-pub with-same : (n : ℕ) (b : List Float) (B C : Bank) (k : ℕ) → ((i : ℕ) → i < k → model B i ≡ model C i) → withEstimates n k b B ≡ withEstimates n k b C
-unfolding withEstimates
-with-same n b B C zero s = refl
-with-same n b B C (suc k) s = ap₂ (λ (e : Estimate) (l : List Float). placed (modelPlace n k 1) (e .state ++ joined (e .covariance)) l) (s k (omega arith)) (with-same n b B C k (λ i l. s i (omega arith)))
-
--- ---- a loop that puts the estimates of x and p into a slice, model by model: i are put
-abbrev pub rowsBank : Size → ℕ → List (List Float) → List (List (List Float)) → Bank
-rowsBank n k x p = record {
-  estimates = table k (λ i. estimate (cut (count n) (row x i)) (used (count n) (count n) (getD p i [])));
-  likelihoods = cut k [];
-  probabilities = cut k [];
-}
-
-pub record Putting (n : Size) (k : ℕ) (x : List (List Float)) (p : List (List (List Float))) (b : List Float) (i : ℕ) (l : List Float) : Type 0 where
-  pub within : i ≤ k
-  pub fits : k * modelLength (count n) ≤ length b
-  pub is : l ≡ withEstimates (count n) i b (rowsBank n k x p)
-  pub long : length l ≡ length b
-
-pub putting-none : (n : Size) (k : ℕ) (x : List (List Float)) (p : List (List (List Float))) (b : List Float) → k * modelLength (count n) ≤ length b → Putting n k x p b 0 b
-unfolding withEstimates
-putting-none n k x p b h = record { within = omega arith; fits = h; is = refl; long = refl }
-
-pub putting-more : {n : Size} {k : ℕ} {x : List (List Float)} {p : List (List (List Float))} {b : List Float} {i : ℕ} {l l₁ : List Float} {q : ℕ} → Putting n k x p b i l → i < k
-    → q ≡ modelPlace (count n) i 1 → l₁ ≡ putAt q (cut (count n) (row x i) ++ joined (used (count n) (count n) (getD p i []))) l → Putting n k x p b (i + 1) l₁
-unfolding withEstimates
-putting-more {n} {k} {x} {p} {b} {i} {l} {l₁} {q} v h e d =
-    let f : ℕ → Estimate = λ i. estimate (cut (count n) (row x i)) (used (count n) (count n) (getD p i [])) in
-    let room : q + (count n + count n * count n) ≤ length l = omega (arith, v .long, v .fits, model-within (count n) k i h, e) in
-    let put = pair-put q l (row x i) (getD p i []) refl room d in
-    record {
-      within = omega arith;
-      fits = v .fits;
-      is = put
-          ∙ (λ t. placed (e t) (sym (getD-table k f i (estimate [] []) h) t .state ++ joined (sym (getD-table k f i (estimate [] []) h) t .covariance)) (v .is t))
-          ∙ ap (λ (j : ℕ). withEstimates (count n) j b (rowsBank n k x p)) (sym (add-one i));
-      long = ap length put ∙ length-placed q _ l (omega (arith, room, length-pair (count n) (row x i) (getD p i []))) ∙ v .long;
-    }
-
-pub putting-all : (k : Size) {n : Size} {m : ℕ} {x : List (List Float)} {p : List (List (List Float))} {b : List Float} {i : ℕ} {l : List Float} → Putting n m x p b i l → m ≡ count k → m ≤ i
-    → l ≡ withEstimates (count n) (count k) b (bankRows n k x p [] [])
-putting-all k {n} {m} {x} {p} {b} {i} v e h =
-    let all : i ≡ m = omega (arith, v .within) in
-    v .is ∙ ap (λ (j : ℕ). withEstimates (count n) j b (rowsBank n m x p)) all ∙ ap (λ (j : ℕ). withEstimates (count n) j b (rowsBank n j x p)) e
+use Rattle.c_imm.specs.Bank.{isBank, isParts}
+use Rattle.c_imm.proofs.Banks.{Whole, whole-of}
 
 -- ---- slices that are just the parts of a bank of l numbers, but for its probabilities
 pub record Given (n m k l : ℕ) (a t c r : List Float) : Type 0 where

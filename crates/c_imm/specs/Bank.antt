@@ -10,11 +10,12 @@ use Rattle.answer.specs.Outcome.{into, handed}
 use Rattle.answer.specs.Told.{numberOf}
 use Rattle.answer.specs.Table.{table, padTo}
 use Rattle.scalar.specs.Number.{+0}
-use Rattle.algebra.specs.Matrix.{Vector, Matrix, at}
-use Rattle.algebra.specs.Array.{padRow, pad}
+use Rattle.algebra.specs.Matrix.{Matrix, at, cell, sumOf}
+use Rattle.algebra.specs.Array.{pad}
 use Rattle.filtering.specs.Filter.{Estimate, estimate}
 use Rattle.mixing.specs.Mixing.{Bank, model, uniform, mixEstimates, updateProbabilities, fusedEstimate}
-use Rattle.layout.specs.Layout.{vectorAt, matrixAt, vectorIn, matrixIn, joined, placed, total, offset, partAt, modelParts, modelLength, bankParts}
+use Rattle.imm_steps.specs.Bank.{spreadTerm}
+use Rattle.layout.specs.Layout.{vectorAt, matrixAt, matrixIn, joined, placed, total, offset, partAt, modelParts, modelLength, bankParts}
 use Rattle.steps.specs.Step.{wellSized}
 
 -- ---- sizes and places
@@ -62,15 +63,26 @@ abbrev pub transitionAt : ℕ → ℕ → ℕ → List Float → Matrix
 transitionAt n m k b = partAt (bankParts n m k) b 1
 
 -- ---- and in arrays, as the code reads it: a place outside the slice reads as +0
-abbrev pub statesIn : ℕ → ℕ → List Float → List (List Float)
-statesIn n k b = padTo 4 (replicate 4 +0) (table k (λ i. padRow (vectorIn n b (modelPlace n i 1))))
-
 abbrev pub covariancesIn : ℕ → ℕ → List Float → List (List (List Float))
 covariancesIn n k b = padTo 4 (replicate 4 (replicate 4 +0)) (table k (λ i. pad (matrixIn n n b (modelPlace n i 1 + n))))
 
 -- the estimates and the transition of two models of one road
 abbrev pub roadsIn : List Float → Estimate × (Estimate × Matrix)
 roadsIn b = (estimateAt 2 b 0, (estimateAt 2 b 1, matrixAt 2 2 b 30))
+
+-- ---- numbers g i for each of the first k models, from number q on, a step apart
+unfoldable pub series : ℕ → ℕ → ℕ → (ℕ → List Float) → List Float → List Float
+series zero q step g b = b
+series (suc k) q step g b = placed (q + k * step) (g k) (series k q step g b)
+
+-- row r of the covariance of model j, mixed from the rows of K models that stand in b from number q on, a step apart
+abbrev pub mixedRowIn : ℕ → ℕ → ℕ → Matrix → Matrix → Matrix → List Float → ℕ → ℕ → ℕ → List Float
+mixedRowIn n K step x m w b q r j =
+    table n (λ c. sumOf K (λ i. spreadTerm (at b (q + i * step + c)) (cell x i r) (cell m j r) (cell x i c) (cell m j c) (cell w i j)))
+
+-- all its rows
+abbrev pub mixedRowsIn : ℕ → ℕ → Matrix → Matrix → Matrix → List Float → ℕ → Matrix
+mixedRowsIn n K x m w b j = table n (λ r. mixedRowIn n K (modelLength n) x m w b (n * n + n + r * n) r j)
 
 -- ---- what is placed there: the estimates of the first k models of B, each in its place; then the probabilities too
 unfoldable pub withEstimates : ℕ → ℕ → List Float → Bank → List Float

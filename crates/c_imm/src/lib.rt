@@ -1,6 +1,6 @@
 // src/estimator/imm.rs on a slice that the caller lends: a bank of k models of n states and m measurements is, for each model, a,
-// x, p, q and its likelihood, then the transition, c, r and the probabilities mu, by rows, one after another. A step reads what it
-// needs as rows, once, and writes it back, once; the other calls copy. Refused with 1: a size, or a slice of another length.
+// x, p, q and its likelihood, then the transition, c, r and the probabilities mu, by rows, one after another. Numbers are read and
+// written where they stand, each once; the other calls copy. Refused with 1: a size, or a slice of another length.
 ghost use mathlib.Core.Path.{_≡_};
 ghost use mathlib.Core.Bool.{true};
 ghost use mathlib.Core.List.{[], _++_};
@@ -9,14 +9,13 @@ ghost use lib.ListN.{length, replicate};
 ghost use Rattle.answer.specs.Told.{given};
 ghost use Rattle.scalar.specs.Number.{+0};
 ghost use Rattle.answer.specs.Table.{table, padTo};
-ghost use Rattle.algebra.specs.Matrix.{at};
+ghost use Rattle.algebra.specs.Matrix.{at, row};
 ghost use Rattle.algebra.specs.Array.{padRow};
-ghost use Rattle.sizes.specs.Size.{count};
+ghost use Rattle.sizes.specs.Size.{count, front};
 ghost use Rattle.layout.specs.Layout.{vectorAt, joined, placed, total, modelLength, bankParts};
 ghost use Rattle.steps.specs.Step.{wellSized};
 ghost use Rattle.road.specs.Road.{matrixOf, estimateOf};
-ghost use Rattle.imm_steps.specs.Bank.{bankRows};
-ghost use Rattle.c_imm.specs.Bank.{modelPlace, probabilitiesPlace, isBank, isParts, isRoads, statesIn, covariancesIn, roadsIn, withEstimates, withBank, mixedIn};
+ghost use Rattle.c_imm.specs.Bank.{modelPlace, probabilitiesPlace, isBank, isParts, isRoads, roadsIn, series, mixedRowIn, mixedRowsIn, withBank, mixedIn};
 ghost use Rattle.c_imm.specs.Bank.{mixIn, probabilitiesIn, fusedIn, probabilityIn, newIn};
 use road::Pair;
 use road::Two;
@@ -73,7 +72,7 @@ fn is_bank(n: usize, m: usize, k: usize, len: usize) -> bool
 
 // Four numbers are read whatever the size, so that no size is asked for: those that are not used are ignored.
 fn four_at(b: &[f64], k: usize) -> [f64; 4]
-    requires { ⌜ (k ≤ 268) × (k + 4 ≤ length (now b)) ⌝ }
+    requires { ⌜ (k ≤ 400) × (k + 4 ≤ length (now b)) ⌝ }
     ensures { λ v. ⌜ v ≡ vectorAt 4 (now (b .entry)) k ⌝ }
 {
     [b[k], b[k + 1], b[k + 2], b[k + 3]]
@@ -81,7 +80,7 @@ fn four_at(b: &[f64], k: usize) -> [f64; 4]
 
 // Four numbers for each of m models, from number k on.
 fn rows_at(b: &[f64], k: usize, step: usize, m: Size) -> [[f64; 4]; 4]
-    requires { ⌜ ((k ≤ 20) × (step ≤ 53)) × (k + count m * step + 4 ≤ length (now b) + step) ⌝ }
+    requires { ⌜ ((k ≤ 212) × (step ≤ 53)) × (k + count m * step + 4 ≤ length (now b) + step) ⌝ }
     ensures { λ r. ⌜ r ≡ padTo 4 (replicate 4 +0) (table (count m) (λ i. vectorAt 4 (now (b .entry)) (k + i * step))) ⌝ }
 {
     let models = number(m);
@@ -118,50 +117,6 @@ fn numbers_at(b: &[f64], k: usize, step: usize, m: Size) -> [f64; 4]
         return [b[k], b[k + step], b[k + 2 * step], 0.0];
     }
     [b[k], b[k + step], b[k + 2 * step], b[k + 3 * step]]
-}
-
-// ---- rows out of a slice, and back
-
-fn states_at(bank: &[f64], n: Size, k: Size) -> [[f64; 4]; 4]
-    ensures { λ x. ⌜ x ≡ statesIn (count n) (count k) (now (bank .entry)) ⌝ }
-{
-    let models = number(k);
-    let states = number(n);
-    let mut x = [[0.0; 4]; 4];
-    for i in 0..models {
-        x[i] = layout::vector_at(bank, state_place(states, i), n);
-    }
-    x
-}
-
-fn covariances_at(bank: &[f64], n: Size, k: Size) -> [[[f64; 4]; 4]; 4]
-    ensures { λ p. ⌜ p ≡ covariancesIn (count n) (count k) (now (bank .entry)) ⌝ }
-{
-    let models = number(k);
-    let states = number(n);
-    let mut p = [[[0.0; 4]; 4]; 4];
-    for i in 0..models {
-        p[i] = layout::matrix_at(bank, state_place(states, i) + states, n, n);
-    }
-    p
-}
-
-// The estimates x and p of k models of n states, each in its place.
-fn put_estimates<'a>(
-    bank: &mut [f64],
-    x: &'a [[f64; 4]; 4],
-    p: &'a [[[f64; 4]; 4]; 4],
-    n: Size,
-    k: Size,
-)
-    requires { ⌜ count k * modelLength (count n) ≤ length (now bank) ⌝ }
-    ensures { λ u. ⌜ now (bank .exit) ≡ withEstimates (count n) (count k) (now (bank .entry)) (bankRows n k (now (x .entry)) (now (p .entry)) [] []) ⌝ }
-{
-    let models = number(k);
-    let states = number(n);
-    for i in 0..models {
-        layout::put_pair(bank, state_place(states, i), x[i], &p[i], n);
-    }
 }
 
 // ---- two models of one road: two states each, read where their numbers stand
@@ -239,6 +194,102 @@ fn mix_roads(m: usize, bank: &mut [f64])
 
 // ---- the steps
 
+// The first n numbers of v, from number k on. Those of one size stand together, so that they are written at once.
+fn put_row(b: &mut [f64], k: usize, v: [f64; 4], n: Size)
+    requires { ⌜ (k ≤ 500) × (k + count n ≤ length (now b)) ⌝ }
+    ensures { λ u. ⌜ now (b .exit) ≡ placed k (front n v) (now (b .entry)) ⌝ }
+{
+    let numbers = number(n);
+    if numbers < 2 {
+        b[k] = v[0];
+        return;
+    }
+    if numbers < 3 {
+        b[k] = v[0];
+        b[k + 1] = v[1];
+        return;
+    }
+    if numbers < 4 {
+        b[k] = v[0];
+        b[k + 1] = v[1];
+        b[k + 2] = v[2];
+        return;
+    }
+    b[k + 3] = v[3];
+    b[k + 2] = v[2];
+    b[k + 1] = v[1];
+    b[k] = v[0];
+}
+
+// Row j of m for each model j of k, from number q on.
+fn put_rows(bank: &mut [f64], q: usize, step: usize, m: &[[f64; 4]; 4], n: Size, k: Size)
+    requires { ⌜ ((q ≤ 212) × (step ≤ 53)) × (q + count k * step + 4 ≤ length (now bank) + step) ⌝ }
+    ensures { λ u. ⌜ now (bank .exit) ≡ series (count k) q step (λ j. front n (row (now (m .entry)) j)) (now (bank .entry)) ⌝ }
+{
+    let models = number(k);
+    for j in 0..models {
+        put_row(bank, q + j * step, m[j], n);
+    }
+}
+
+// Row r of every covariance, which stand from number q on, mixed: x are the states, m the mixed ones, w the weights.
+fn mix_row<'a>(
+    bank: &mut [f64],
+    x: &'a [[f64; 4]; 4],
+    m: &'a [[f64; 4]; 4],
+    w: &'a [[f64; 4]; 4],
+    r: usize,
+    q: usize,
+    step: usize,
+    n: Size,
+    k: Size,
+)
+    requires { ⌜ (r < 4) × (((q ≤ 212) × (step ≤ 53)) × (q + count k * step + 4 ≤ length (now bank) + step)) ⌝ }
+    ensures { λ u. ⌜
+        now (bank .exit)
+        ≡ series (count k) q step
+        (mixedRowIn (count n) (count k) step (now (x .entry)) (now (m .entry)) (now (w .entry)) (now (bank .entry)) q r) (now (bank .entry)) ⌝ }
+{
+    let p = rows_at(bank, q, step, k);
+    let models = number(k);
+    for j in 0..models {
+        let row = imm_steps::mixed_row(&p, x, m, w, j, r, k);
+        put_row(bank, q + j * step, row, n);
+    }
+}
+
+// Every covariance mixed, row by row, where it stands.
+fn mix_covariances<'a>(
+    bank: &mut [f64],
+    x: &'a [[f64; 4]; 4],
+    m: &'a [[f64; 4]; 4],
+    w: &'a [[f64; 4]; 4],
+    n: Size,
+    k: Size,
+)
+    requires { ⌜ count k * modelLength (count n) + 1 ≤ length (now bank) ⌝ }
+    ensures { λ u. ⌜
+        now (bank .exit)
+        ≡ series (count k) (count n * count n + count n) (modelLength (count n))
+        (λ j. joined (mixedRowsIn (count n) (count k) (now (x .entry)) (now (m .entry)) (now (w .entry)) (now (bank .entry)) j)) (now (bank .entry)) ⌝ }
+{
+    let states = number(n);
+    let step = model_length(states);
+    for r in 0..states {
+        mix_row(
+            bank,
+            x,
+            m,
+            w,
+            r,
+            states * states + states + r * states,
+            step,
+            n,
+            k,
+        );
+    }
+}
+
 // Every model mixed, for any sizes.
 fn mix_rows(n: usize, m: usize, k: usize, bank: &mut [f64]) -> u8
     ensures { λ t. ⌜ (t, now (bank .exit)) ≡ mixIn n m k (now (bank .entry)) ⌝ }
@@ -247,13 +298,16 @@ fn mix_rows(n: usize, m: usize, k: usize, bank: &mut [f64]) -> u8
         let from = probabilities_place(n, m, k);
         let sn = size_of(n);
         let sk = size_of(k);
-        let t = layout::matrix_at(bank, k * model_length(n), sk, sk);
-        let mut x = states_at(bank, sn, sk);
-        let mut p = covariances_at(bank, sn, sk);
-        let mut mu = layout::vector_at(bank, from, sk);
-        imm_steps::mix(&t, sn, sk, &mut x, &mut p, &mut mu);
-        put_estimates(bank, &x, &p, sn, sk);
-        layout::put_vector(bank, from, mu, sk);
+        let step = model_length(n);
+        let t = rows_at(bank, k * step, k, sk);
+        let x = rows_at(bank, n * n, step, sk);
+        let mu = numbers_at(bank, from, 1, sk);
+        let c = imm_steps::predicted(&t, mu, sk);
+        let w = imm_steps::all_shares(&t, mu, c, sk);
+        let s = imm_steps::mixed_states(&x, &w, sk);
+        put_rows(bank, n * n, step, &s, sn, sk);
+        mix_covariances(bank, &x, &s, &w, sn, sk);
+        put_row(bank, from, c, sk);
         0
     } else {
         1

@@ -1,3 +1,4 @@
+pub mod Ways
 pub mod Banks
 pub mod Mixes
 pub mod Holders

@@ -4,16 +4,17 @@
 ghost use mathlib.Core.Path.{_≡_};
 ghost use mathlib.Core.Bool.{cond};
 ghost use mathlib.Core.List.{[]};
-ghost use Prim.Native.Nat.{_<_};
+ghost use Prim.Native.Nat.{ℕ, _<_};
 ghost use lib.Ieee.{lt};
-ghost use Rattle.scalar.specs.Number.{_⊗_, _⊘_, +0, epsilon};
+ghost use Rattle.scalar.specs.Number.{_⊕_, _⊖_, _⊗_, _⊘_, +0, epsilon};
 ghost use Rattle.answer.specs.Table.{table};
 ghost use Rattle.algebra.specs.Matrix.{at, row, cell, sumOf, vecSub};
 ghost use Rattle.algebra.specs.Array.{padRow, pad};
 ghost use Rattle.sizes.specs.Size.{count, front, part};
+ghost use Rattle.rows.specs.Row.{rowTimes};
 ghost use Rattle.mixing.specs.Mixing.{uniform as uniformOf, predicted as predictedOf, weighted as weightedOf, mixedCovariance};
 ghost use Rattle.mixing.specs.Mixing.{updateProbabilities};
-ghost use Rattle.imm_steps.specs.Bank.{bankRows, mixedRows, spreadCell};
+ghost use Rattle.imm_steps.specs.Bank.{bankRows, mixedRows, spreadCell, shareOf, spreadTerm, Shares, States};
 use rows::pick;
 use scalar::ControlScalar;
 use sizes::Size;
@@ -123,6 +124,125 @@ fn mixed_covariance<'a>(
         out[r] = rows::leading(covariance_row(p, &d, w, r, k), n);
     }
     out
+}
+
+// ---- estimates by the rows of all models, for a caller that has them where they stand
+
+// The weight of a model of the probability m, which goes over with t, in one of the predicted probability c.
+fn share(m: f64, t: f64, c: f64) -> f64
+    ensures { λ w. ⌜ w ≡ shareOf m t c ⌝ }
+{
+    pick(c > ControlScalar::EPSILON, m * t / c, 0.0)
+}
+
+// The weights of one model in all k. A division takes long, so none is made for models that are not there.
+fn shares(t: [f64; 4], m: f64, c: [f64; 4], k: Size) -> [f64; 4]
+    ensures { λ w. ⌜ front k w ≡ table (count k) (λ j. shareOf m (at t j) (at c j)) ⌝ }
+{
+    let a = share(m, t[0], c[0]);
+    let b = share(m, t[1], c[1]);
+    if number(k) < 3 {
+        return [a, b, 0.0, 0.0];
+    }
+    let d = share(m, t[2], c[2]);
+    let e = share(m, t[3], c[3]);
+    [a, b, d, e]
+}
+
+// The weights of each model, a row for each.
+pub fn all_shares(t: &[[f64; 4]; 4], mu: [f64; 4], c: [f64; 4], k: Size) -> [[f64; 4]; 4]
+    ensures { λ w. ⌜ Shares k (now (t .entry)) mu c w ⌝ }
+{
+    let none = [0.0; 4];
+    let n = number(k);
+    let w0 = shares(t[0], mu[0], c, k);
+    if n < 2 {
+        return [w0, none, none, none];
+    }
+    let w1 = shares(t[1], mu[1], c, k);
+    if n < 3 {
+        return [w0, w1, none, none];
+    }
+    let w2 = shares(t[2], mu[2], c, k);
+    if n < 4 {
+        return [w0, w1, w2, none];
+    }
+    let w3 = shares(t[3], mu[3], c, k);
+    [w0, w1, w2, w3]
+}
+
+// The state of model j mixed from the states x by the weights w, in all four numbers.
+fn mixed_state<'a>(x: &'a [[f64; 4]; 4], w: &'a [[f64; 4]; 4], j: usize, k: Size) -> [f64; 4]
+    requires { ⌜ j < 4 ⌝ }
+    ensures { λ m. ⌜ m ≡ rowTimes (count k) (table 4 (λ i. cell (now (w .entry)) i j)) (now (x .entry)) ⌝ }
+{
+    rows::row_product([w[0][j], w[1][j], w[2][j], w[3][j]], x, k)
+}
+
+// The mixed states, a row for each model.
+pub fn mixed_states<'a>(x: &'a [[f64; 4]; 4], w: &'a [[f64; 4]; 4], k: Size) -> [[f64; 4]; 4]
+    ensures { λ m. ⌜ States k (now (x .entry)) (now (w .entry)) m ⌝ }
+{
+    let none = [0.0; 4];
+    let n = number(k);
+    let m0 = mixed_state(x, w, 0, k);
+    if n < 2 {
+        return [m0, none, none, none];
+    }
+    let m1 = mixed_state(x, w, 1, k);
+    if n < 3 {
+        return [m0, m1, none, none];
+    }
+    let m2 = mixed_state(x, w, 2, k);
+    if n < 4 {
+        return [m0, m1, m2, none];
+    }
+    let m3 = mixed_state(x, w, 3, k);
+    [m0, m1, m2, m3]
+}
+
+// s and a row p of a covariance with its spread, times w: x is the state, m the mixed state, and y the deviation of the row.
+fn plus_spread(s: [f64; 4], p: [f64; 4], x: [f64; 4], m: [f64; 4], y: f64, w: f64) -> [f64; 4]
+    ensures { λ r. ⌜ r ≡ table 4 (λ c. at s c ⊕ (at p c ⊕ (+0 ⊕ y ⊗ (at x c ⊖ at m c))) ⊗ w) ⌝ }
+{
+    [
+        s[0] + (p[0] + (0.0 + y * (x[0] - m[0]))) * w,
+        s[1] + (p[1] + (0.0 + y * (x[1] - m[1]))) * w,
+        s[2] + (p[2] + (0.0 + y * (x[2] - m[2]))) * w,
+        s[3] + (p[3] + (0.0 + y * (x[3] - m[3]))) * w,
+    ]
+}
+
+// Row r of the covariance of model j, mixed from the rows p of all models.
+pub fn mixed_row<'a>(
+    p: &'a [[f64; 4]; 4],
+    x: &'a [[f64; 4]; 4],
+    m: &'a [[f64; 4]; 4],
+    w: &'a [[f64; 4]; 4],
+    j: usize,
+    r: usize,
+    k: Size,
+) -> [f64; 4]
+    requires { ⌜ (j < 4) × (r < 4) ⌝ }
+    ensures { λ v. ⌜
+        v ≡ table 4 (λ c. sumOf (count k) (λ i. spreadTerm (cell (now (p .entry)) i c)
+        (cell (now (x .entry)) i r) (cell (now (m .entry)) j r) (cell (now (x .entry)) i c) (cell (now (m .entry)) j c) (cell (now (w .entry)) i j))) ⌝ }
+{
+    let n = number(k);
+    let y = m[j][r];
+    let s1 = plus_spread([0.0; 4], p[0], x[0], m[j], x[0][r] - y, w[0][j]);
+    if n < 2 {
+        return s1;
+    }
+    let s2 = plus_spread(s1, p[1], x[1], m[j], x[1][r] - y, w[1][j]);
+    if n < 3 {
+        return s2;
+    }
+    let s3 = plus_spread(s2, p[2], x[2], m[j], x[2][r] - y, w[2][j]);
+    if n < 4 {
+        return s3;
+    }
+    plus_spread(s3, p[3], x[3], m[j], x[3][r] - y, w[3][j])
 }
 
 // ---- the steps

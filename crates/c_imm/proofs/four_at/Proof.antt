@@ -1,9 +1,8 @@
 -- `four_at` meets its contract: four numbers, each where it stands.
 use mathlib.Core.List.{[], _∷_}
-use mathlib.Core.Path.{_≡_, ap}
+use mathlib.Core.Path.{_≡_}
 use native.Mathlib.Omega.{arith}
-use Prim.Native.Nat.{ℕ, _+_}
-use lib.Ieee.{Float}
+use Prim.Native.Nat.{_+_}
 use Rattle.algebra.specs.Matrix.{at}
 use Rattle.c_imm.proofs.four_at.Statement.{statement}
 use Rattle.c_imm.proofs.four_at.Tie as tie

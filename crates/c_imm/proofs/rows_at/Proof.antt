@@ -1,5 +1,4 @@
 -- `rows_at` meets its contract: each way out has the rows of one number of models.
-use mathlib.Core.Path.{_≡_, refl}
 use native.Mathlib.Omega.{arith}
 use Prim.Native.Nat.{ℕ, _+_, _*_, _≤_, _<_}
 use lib.ListN.{length, replicate}
