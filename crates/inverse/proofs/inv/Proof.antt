@@ -1,7 +1,6 @@
 -- `inv` meets its contract: by its size, which is tested.
 use mathlib.Core.Path.{_≡_, sym, _∙_}
 use native.Mathlib.Omega.{arith}
-use borrow.Author.Needs.{needs}
 use Rattle.algebra.specs.Array.{cut, used}
 use Rattle.matrix.specs.Result.{asMatrix}
 use Rattle.matrix.proofs.Results.{if-answered, if-refused}
@@ -46,7 +45,7 @@ returns-4 c = if-refused asMatrix _ (sym (c .before .before .is-size .ensures) �
 pub inv-spec : {M : Type 1} → statement M
 inv-spec =
     tie.close
-    (tie.spec (λ c κs. tt) (λ c. search needs) (λ c. search needs) (λ c κs. tt) returns
-    (λ c. search needs) (λ c. search needs) (λ c. search needs) (λ c. search needs) (λ c. search needs)
-    (λ c. search needs) (λ c. search needs) (λ c. search needs) (λ c κs. tt) (λ c κs. tt) returns-2
+    (tie.spec (λ c κs. tt) (λ c. omega arith) (λ c. omega arith) (λ c κs. tt) returns
+    (λ c. omega arith) (λ c. omega arith) (λ c. omega arith) (λ c. omega arith) (λ c. omega arith)
+    (λ c. omega arith) (λ c. omega arith) (λ c. omega arith) (λ c κs. tt) (λ c κs. tt) returns-2
     (λ c κs. tt) eliminate-requires (λ c κs. tt) (λ c κs. tt) returns-3 returns-4)
