@@ -63,15 +63,6 @@ left-more a L j {s} {v} h e d p =
     put-next a L j _ h e (p ∙ ap (λ (y : Float). table 4 (λ t. cond (eqb j t) ((at a j ⊖ y) ⊘ cell L j j) (at v t))) same)
     ∙ ap (λ (k : ℕ). padRow (leftCells a L k)) (sym (add-one j))
 
--- ---- the diagonal: refused, or its root
-pub diagonal-refused : (d : Float) {t : Bool} → t ≡ noDiagonal d → t ≡ true → diagonalOf d ≡ refused 4
-unfolding diagonalOf
-diagonal-refused d e h = if-true _ _ (sym e ∙ h)
-
-pub diagonal-root : (d : Float) {x : Float} {t : Bool} → t ≡ noDiagonal d → t ≡ false → x ≡ root d → diagonalOf d ≡ answered x
-unfolding diagonalOf
-diagonal-root d e h p = if-false _ _ (sym e ∙ h) ∙ ap answered (sym p)
-
 -- ---- the rows
 
 -- l has the first i rows of the factor of a, and +0 after them
@@ -121,7 +112,7 @@ module _ {n : ℕ} {a : Matrix} {i : ℕ} {l : List (List Float)} (e : Factoring
       ∙ ap (λ (x : Float). and-row (diagonalOf (cell a i i ⊖ x))) (sym same-sum)
       ∙ ap and-row d
 
-  pub factoring-more : {x : Float} {r : List Float} → diagonalOf (cell a i i ⊖ s) ≡ answered x → r ≡ table 4 (λ j. cond (eqb i j) x (at v j)) → Factoring n a (i + 1) (set l i r)
+  factoring-more : {x : Float} {r : List Float} → diagonalOf (cell a i i ⊖ s) ≡ answered x → r ≡ table 4 (λ j. cond (eqb i j) x (at v j)) → Factoring n a (i + 1) (set l i r)
   factoring-more {x} d p =
       let w = left ++ x ∷ [] in
       let r = padTo n +0 w in
@@ -139,7 +130,7 @@ module _ {n : ℕ} {a : Matrix} {i : ℕ} {l : List (List Float)} (e : Factoring
       }
 
   -- a refusal stands
-  pub factoring-refused : {k : ℕ} → diagonalOf (cell a i i ⊖ s) ≡ refused k → cholesky n a ≡ refused k
+  factoring-refused : {k : ℕ} → diagonalOf (cell a i i ⊖ s) ≡ refused k → cholesky n a ≡ refused k
   unfolding cholesky factorRows
   factoring-refused {k} d =
       le-ind {n = i + 1} (λ m. factorRows n a m ≡ refused k) (next d)
@@ -158,5 +149,20 @@ pub all-told : {n k i : ℕ} {a : Matrix} {l : List (List Float)} {r : MatrixRes
     → r ≡ asMatrix (cholesky k (used k k a))
 all-told {a = a} e h same p = p ∙ ap (matrixResult Done) (e .is) ∙ sym (factor-at a same (factoring-all e h))
 
-pub refusal-told : {n k j : ℕ} (a : Matrix) {r : MatrixResult} → n ≡ k → cholesky n a ≡ refused j → r ≡ matrixResult (Refused j) (pad []) → r ≡ asMatrix (cholesky k (used k k a))
-refusal-told a same q p = p ∙ sym (factor-at a same q)
+-- ---- a row as the code makes it: v has its cells left of the diagonal, s the sum of their squares, and t is the test of its diagonal
+pub record Row (n : ℕ) (a : Matrix) (i : ℕ) (l : List (List Float)) (v : List Float) (s : Float) (t : Bool) : Type 0 where
+  pub so-far : Factoring n a i l
+  pub more : i < n
+  pub left-is : v ≡ padRow (leftCells (row a i) l i)
+  pub sum-is : s ≡ dot i v v
+  pub test-is : t ≡ noDiagonal (cell a i i ⊖ s)
+
+module _ {n : ℕ} {a : Matrix} {i : ℕ} {l : List (List Float)} {v : List Float} {s : Float} {t : Bool} (u : Row n a i l v s t) where
+  pub row-made : {x : Float} {r : List Float} → t ≡ false → x ≡ root (cell a i i ⊖ s) → r ≡ table 4 (λ j. cond (eqb i j) x (at v j))
+      → Factoring n a (i + 1) (set l i r)
+  unfolding diagonalOf
+  row-made h p q = factoring-more (u .so-far) (u .more) (u .left-is) (u .sum-is) (if-false _ _ (sym (u .test-is) ∙ h) ∙ ap answered (sym p)) q
+
+  pub row-refused : {k : ℕ} {r : MatrixResult} → t ≡ true → n ≡ k → r ≡ matrixResult (Refused 4) (pad []) → r ≡ asMatrix (cholesky k (used k k a))
+  unfolding diagonalOf
+  row-refused h same p = p ∙ sym (factor-at a same (factoring-refused (u .so-far) (u .more) (u .left-is) (u .sum-is) (if-true _ _ (sym (u .test-is) ∙ h))))
