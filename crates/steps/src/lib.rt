@@ -48,6 +48,11 @@ pub fn predicted_state<'a>(
     ensures { λ v. ⌜
         v ≡ padRow (predictedState (motionRows n i (now (a .entry)) (now (b .entry)) []) (front i (now (u .entry))) (front n (now (x .entry)))) ⌝ }
 {
+    if number(n) == 4 {
+        if number(i) == 2 {
+            return four::predicted_state(a, b, x, u);
+        }
+    }
     let ax = rows::row_product_transposed(*x, a, n);
     let bu = rows::row_product_transposed(*u, b, i);
     rows::leading(rows::row_sum(ax, bu), n)
@@ -91,6 +96,11 @@ pub fn innovation<'a>(
 ) -> [f64; 4]
     ensures { λ v. ⌜ v ≡ padRow (innovationOf (count m) (count n) (part m n (now (h .entry))) (front n (now (x .entry))) (front m (now (z .entry)))) ⌝ }
 {
+    if number(n) == 4 {
+        if number(m) == 2 {
+            return four::innovation(h, x, z);
+        }
+    }
     let hx = rows::row_product_transposed(*x, h, n);
     rows::leading(rows::row_difference(*z, hx), m)
 }
@@ -130,6 +140,11 @@ pub fn corrected_state<'a>(
     ensures { λ v. ⌜
         v ≡ padRow (correctedState (count n) (count m) (part n m (now (k .entry))) (front m (now (y .entry))) (front n (now (x .entry)))) ⌝ }
 {
+    if number(n) == 4 {
+        if number(m) == 2 {
+            return four::corrected_state(k, y, x);
+        }
+    }
     let ky = rows::row_product_transposed(*y, k, m);
     rows::leading(rows::row_sum(*x, ky), n)
 }
