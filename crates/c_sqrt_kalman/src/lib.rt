@@ -11,6 +11,10 @@ ghost use Rattle.steps.specs.Step.{wellSized};
 ghost use Rattle.layout.specs.Layout.{joined, placed};
 ghost use Rattle.c_sqrt_kalman.specs.Root.{statePlace, isFilter, isStep, isParts, predictIn, updateIn, newIn, fromCholeskyIn, resetIn, stateIn, covarianceIn, factorIn};
 use answer::Status;
+use c_filters::is_road;
+use c_filters::put_road;
+use c_filters::road_at;
+use matrix::ScalarResult;
 use sizes::both;
 use sizes::size_of;
 
@@ -67,11 +71,10 @@ fn is_parts(
     }
 }
 
-// ---- the steps
+// ---- the steps on rows
 
-// One step on, with the input u of i numbers. Refused with 4: the new covariance has no factor; the state is then the new one, and
-// the factor the old.
-pub fn sqrt_kalman_predict(n: usize, m: usize, i: usize, filter: &mut [f64], u: &[f64]) -> u8
+// One step on, with the input u of i numbers, for any sizes.
+fn predict_rows(n: usize, m: usize, i: usize, filter: &mut [f64], u: &[f64]) -> u8
     ensures { λ t. ⌜ (t, now (filter .exit)) ≡ predictIn n m i (now (filter .entry)) (now (u .entry)) ⌝ }
 {
     if is_step(n, m, i, filter.len(), i, u.len()) {
@@ -92,10 +95,8 @@ pub fn sqrt_kalman_predict(n: usize, m: usize, i: usize, filter: &mut [f64], u: 
     }
 }
 
-// Corrected by the measurement z of m numbers, one component after another; the innovations in order. Refused with 3: a component's
-// variance; the components before it are taken in. With 4: its downdate; the state is then updated by it, and the columns
-// before the failing one are turned.
-pub fn sqrt_kalman_update(
+// Corrected by the measurement z of m numbers, for any sizes.
+fn update_rows(
     n: usize,
     m: usize,
     i: usize,
@@ -132,6 +133,60 @@ pub fn sqrt_kalman_update(
         1
     }
 }
+
+// ---- one road: two states, one measurement and one input, 19 numbers, read where they stand
+
+// One step on, with the input u of i numbers. Refused with 4: the new covariance has no factor; the state is then the new one, and
+// the factor the old.
+pub fn sqrt_kalman_predict(n: usize, m: usize, i: usize, filter: &mut [f64], u: &[f64]) -> u8
+    ensures { λ t. ⌜ (t, now (filter .exit)) ≡ predictIn n m i (now (filter .entry)) (now (u .entry)) ⌝ }
+{
+    if is_road(n, m, i, filter.len(), u.len()) {
+        let f = road_at(filter);
+        let v = sqrt_road::predict(f.a, f.b0, f.b1, f.q, u[0], f.pair);
+        let g = v.pair;
+        put_road(filter, g);
+        return answer::number_of(v.answer);
+    }
+    predict_rows(n, m, i, filter, u)
+}
+
+// Corrected by the measurement z of m numbers, one component after another; the innovations in order. Refused with 3: a component's
+// variance; the components before it are taken in. With 4: its downdate; the state is then updated by it, and the columns
+// before the failing one are turned.
+pub fn sqrt_kalman_update(
+    n: usize,
+    m: usize,
+    i: usize,
+    filter: &mut [f64],
+    z: &[f64],
+    innovation: &mut [f64],
+) -> u8
+    ensures { λ t. ⌜ (t, (now (filter .exit), now (innovation .exit))) ≡ updateIn n m i (now (filter .entry)) (now (z .entry)) (now (innovation .entry)) ⌝ }
+{
+    if both(
+        is_road(n, m, i, filter.len(), z.len()),
+        innovation.len() == 1,
+    ) {
+        let f = road_at(filter);
+        let v = sqrt_road::update(f.h0, f.h1, f.r, z[0], f.pair);
+        let g = v.pair;
+        put_road(filter, g);
+        let answer = v.answer;
+        match answer {
+            ScalarResult::Value(y) => {
+                innovation[0] = y;
+                return 0;
+            }
+            ScalarResult::Refused(number) => {
+                return number;
+            }
+        }
+    }
+    update_rows(n, m, i, filter, z, innovation)
+}
+
+// ---- another state and factor
 
 // Another state x0, and the factor of the covariance p0; the model stays. Refused with 4: p0 has no factor, and nothing changes.
 pub fn sqrt_kalman_reset(

@@ -17,7 +17,7 @@ ghost use Rattle.matrix.specs.Result.{asMatrix};
 const DIAGONAL: u8 = 4;
 
 // What is left of a diagonal cell is at or below zero. A NaN is not.
-fn no_diagonal(d: f64) -> bool
+pub fn no_diagonal(d: f64) -> bool
     ensures { λ r. ⌜ r ≡ noDiagonal d ⌝ }
 {
     d <= 0.0

@@ -24,7 +24,7 @@ use sizes::number;
 // ---- the downdate of l by v, column by column
 
 // The root of a turned diagonal's square d. At or below zero it is refused with 4; a NaN passes.
-fn turned_diagonal(d: f64) -> ScalarResult
+pub fn turned_diagonal(d: f64) -> ScalarResult
     ensures { λ r. ⌜ r ≡ asScalar (turnedDiagonal d) ⌝ }
 {
     if d <= 0.0 {
@@ -119,7 +119,7 @@ pub fn downdate(l: &mut [[f64; 4]; 4], v: [f64; 4], n: Size) -> Status
 // ---- one component of a measurement
 
 // A variance. At or below zero it is refused with 3; a NaN passes.
-fn variance(s: f64) -> ScalarResult
+pub fn variance(s: f64) -> ScalarResult
     ensures { λ r. ⌜ r ≡ asScalar (varianceOf s) ⌝ }
 {
     if s <= 0.0 {

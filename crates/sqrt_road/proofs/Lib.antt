@@ -1,0 +1,3 @@
+mod Factor
+mod Downdates
+mod Ways
