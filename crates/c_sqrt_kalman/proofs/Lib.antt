@@ -2,3 +2,4 @@ pub mod Filters
 pub mod Outcomes
 pub mod Steps
 pub mod Starts
+mod Roads

@@ -37,7 +37,7 @@ use Rattle.c_sqrt_kalman.proofs.Filters.{Whole}
 use Rattle.c_sqrt_kalman.proofs.Outcomes.{Kept, none, some, Tells, told-length, update-tells, update-kept, predict-kept}
 
 -- what stands in a slice is placed there again
-placed-again : (k w : ℕ) (f : List Float) → k + w ≤ length f → placed k (take w (drop k f)) f ≡ f
+pub placed-again : (k w : ℕ) (f : List Float) → k + w ≤ length f → placed k (take w (drop k f)) f ≡ f
 unfolding placed
 placed-again k w f h =
     let long : length (take w (drop k f)) ≡ w = simp (length-take, length-drop) (omega arith) in

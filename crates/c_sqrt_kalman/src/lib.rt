@@ -146,7 +146,8 @@ pub fn sqrt_kalman_predict(n: usize, m: usize, i: usize, filter: &mut [f64], u: 
         let v = sqrt_road::predict(f.a, f.b0, f.b1, f.q, u[0], f.pair);
         let g = v.pair;
         put_road(filter, g);
-        return answer::number_of(v.answer);
+        let status = v.answer;
+        return answer::number_of(status);
     }
     predict_rows(n, m, i, filter, u)
 }

@@ -1,56 +1,30 @@
--- `sqrt_kalman_predict` meets its contract: by the test of the slice.
+-- `sqrt_kalman_predict` meets its contract: one road by its numbers, and else rows.
 use native.Mathlib.Omega.{arith}
-use mathlib.Core.Path.{_≡_, refl, sym, ap, _∙_}
-use mathlib.Core.Bool.{Bool}
-use Prim.Native.Nat.{ℕ}
-use mathlib.Core.List.{List}
+use mathlib.Core.Path.{_≡_, sym, _∙_}
 use lib.ListN.{length}
-use lib.Ieee.{Float}
-use Rattle.answer.specs.Outcome.{if-fitting}
-use Rattle.filtering.specs.SquareRoot.{predict}
-use Rattle.c_sqrt_kalman.specs.Root.{motionAt, factoredAt, steppedIn}
 use borrow.Author.Needs.{needs}
-use Rattle.c_sqrt_kalman.proofs.Filters.{Step, step-of}
-use Rattle.c_sqrt_kalman.proofs.Steps.{predicts}
+use Rattle.c_filters.proofs.Roads.{Road, road-of, road-read, pair-put}
+use Rattle.c_sqrt_kalman.proofs.Roads.{predicts}
 use Rattle.c_sqrt_kalman.proofs.sqrt_kalman_predict.Statement.{statement}
 use Rattle.c_sqrt_kalman.proofs.sqrt_kalman_predict.Tie as tie
 
-test : (c : tie.Then1) → let a = c .before .before .before .before .args in Step (a .n) (a .m) (a .i) (length (a .filter .now)) (a .i) (length (a .u .now))
-test c = step-of _ _ _ _ _ _ (sym (c .before .is-step .ensures) ∙ c .if1 .taken)
-
--- by the test of the sizes
-abbrev by : ℕ → ℕ → ℕ → List Float → List Float → Bool → ℕ × List Float
-by n m i f u t = steppedIn n m i f (if-fitting t (predict (motionAt n m i f) u (factoredAt n m i f)))
+road : (c : tie.Then1) → let a = c .before .before .before .before .args in Road (a .n) (a .m) (a .i) (length (a .filter .now)) (length (a .u .now))
+road c = road-of _ _ _ _ _ (sym (c .before .is-road .ensures) ∙ c .if1 .taken)
 
 returns : tie.Need-returns
 returns c =
     let put = c .before .before .before in
     let step = put .before .before .before in
-    let p = step .before .before .before .before .before .before .before in
-    let x = p .before .before in
-    let v = x .before .before in
-    let q = v .before in
-    let b = q .before .before in
-    let a = b .before .before in
-    let si = a .before .before in
-    let sn = si .before in
-    let k = sn .before in
-    let t = k .before in
-    let g = t .before .before .before .before .args in
-    let s = test t in
-    let is = predicts (g .n) (g .m) (g .i) (g .filter .now) (s .whole) (sn .size-of .ensures) refl (si .size-of2 .ensures) (k .state-place .ensures .0) (g .u .now) (s .same)
-    (a .matrix-at .ensures) (b .matrix-at2 .ensures) (q .matrix-at3 .ensures) (v .vector-at .ensures) (x .vector-at2 .ensures) (p .matrix-at4 .ensures) (step .predict .ensures) (put .put-pair .ensures) in
-    (λ j. (c .number-of .ensures j, put .put-pair .last .0)) ∙ is ∙ ap (by (g .n) (g .m) (g .i) (g .filter .now) (g .u .now)) (sym (sym (t .before .is-step .ensures) ∙ t .if1 .taken))
-
-returns-2 : tie.Need-returns-2
-returns-2 c = let g = c .before .before .before .before .args in ap (by (g .n) (g .m) (g .i) (g .filter .now) (g .u .now)) (sym (sym (c .before .is-step .ensures) ∙ c .if1 .left))
+    let f = step .before .before in
+    let t = f .before .before in
+    let a = t .before .before .before .before .args in
+    let b = a .filter .now in
+    predicts b (a .u .now) (road t) (f .road-at .result) (road-read b (road t .long) (f .road-at .ensures)) (step .predict .ensures)
+    (pair-put b (step .predict .result .pair) (road t .long) (put .put-road .ensures)) (c .number-of .ensures)
 
 pub sqrt-kalman-predict-spec : {M : Type 1} → statement M
 sqrt-kalman-predict-spec =
     tie.close
-    (tie.spec (λ c κs. search needs) (λ c κs. test c .whole .sizes)
-    (λ c κs. search needs) (λ c κs. search needs) (λ c κs. search needs) (λ c. search needs) (λ c κs. search needs)
-    (λ c. search needs) (λ c. search needs) (λ c. search needs) (λ c. search needs) (λ c. search needs)
-    (λ c κs. search needs) (λ c κs. search needs) (λ c κs. search needs)
-    (λ c. let k = c .before .before .before .before .before .before .before .before .before .before .before .before in omega (arith, test (k .before) .whole .few, k .state-place .ensures))
-    (λ c κs. search needs) (λ c κs. search needs) (λ c κs. search needs) (λ c κs. search needs) (λ c. search needs) returns returns-2)
+    (tie.spec (λ c κs. search needs) (λ c κs. search needs) (λ c. omega (arith, road (c .before .before .before) .one))
+    (λ c κs. search needs) (λ c κs. search needs) (λ c κs. search needs) (λ c. search needs) returns
+    (λ c κs. search needs) (λ c. search needs) (λ c. search needs))
