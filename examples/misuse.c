@@ -50,7 +50,7 @@ static uint8_t tracker_start(tracker *t)
 {
     t->stored = 0;
     t->dropped = 0;
-    return kalman_position_velocity(1.0, 1.0, 8.0, t->filter, FILTER);
+    return estimators_kalman_position_velocity(1.0, 1.0, 8.0, t->filter, FILTER);
 }
 
 /* One second on, with the wheel's metres; a reading that is no number counts as missing. */
@@ -61,21 +61,21 @@ static uint8_t tracker_step(tracker *t, double wheel)
     uint64_t count;
 
     if (t->stored == DUTY) return ESTIMATORS_REFUSED_FULL;
-    told = kalman_predict(N, M, I, t->filter, FILTER, none, I);
+    told = estimators_kalman_predict(N, M, I, t->filter, FILTER, none, I);
     if (told != ESTIMATORS_OK) return told;
     if (isfinite(wheel)) {
-        told = kalman_update(N, M, I, t->filter, FILTER, &wheel, M, innovation, M);
+        told = estimators_kalman_update(N, M, I, t->filter, FILTER, &wheel, M, innovation, M);
         if (told != ESTIMATORS_OK) return told;
     } else {
         t->dropped++;
     }
     memcpy(ahead, t->filter, sizeof ahead);
-    told = kalman_predict(N, M, I, ahead, FILTER, none, I);
+    told = estimators_kalman_predict(N, M, I, ahead, FILTER, none, I);
     if (told != ESTIMATORS_OK) return told;
     /* Room for one slot at a time, so that a duty may be longer than ROOM. */
     slot = t->slots + ESTIMATORS_SLOT_STATE(N, t->stored);
     count = 0;
-    told = rts_smoother_store_forward(N, 1, &count, slot, SLOT, t->filter + STATE, PAIR, ahead + STATE, PAIR);
+    told = estimators_rts_smoother_store_forward(N, 1, &count, slot, SLOT, t->filter + STATE, PAIR, ahead + STATE, PAIR);
     if (told == ESTIMATORS_OK) t->stored++;
     return told;
 }
@@ -93,7 +93,7 @@ static uint8_t tracker_smooth(const tracker *t, uint64_t room, double *output)
         uint8_t told;
         memcpy(part, t->slots + (end - own) * SLOT, (size_t)(count * SLOT) * sizeof(double));
         if (known == 1) memcpy(part + own * SLOT, output + end * PAIR, PAIR * sizeof(double));
-        told = rts_smoother_smooth(N, count, count, part, count * SLOT, t->filter, N * N, smoothed, count * PAIR);
+        told = estimators_rts_smoother_smooth(N, count, count, part, count * SLOT, t->filter, N * N, smoothed, count * PAIR);
         if (told != ESTIMATORS_OK) return told;
         memcpy(output + (end - own) * PAIR, smoothed, (size_t)(count * PAIR) * sizeof(double));
         end -= own;
@@ -133,10 +133,10 @@ static void numbers_that_are_none(void)
     const double x0[N] = {0, 0}, p0[N * N] = {1000, 0, 0, 1000}, nan[M] = {NAN};
     double filter[FILTER], innovation[M];
 
-    check(kalman_position_velocity(1.0, 1.0, 8.0, filter, FILTER) == ESTIMATORS_OK, "a filter");
-    check(kalman_update(N, M, I, filter, FILTER, nan, M, innovation, M) == ESTIMATORS_OK, "a NaN is taken in");
+    check(estimators_kalman_position_velocity(1.0, 1.0, 8.0, filter, FILTER) == ESTIMATORS_OK, "a filter");
+    check(estimators_kalman_update(N, M, I, filter, FILTER, nan, M, innovation, M) == ESTIMATORS_OK, "a NaN is taken in");
     check(isnan(filter[STATE]) && isnan(innovation[0]), "and stays");
-    check(kalman_reset(N, M, I, filter, FILTER, x0, N, p0, N * N) == ESTIMATORS_OK && filter[STATE] == 0, "until a reset");
+    check(estimators_kalman_reset(N, M, I, filter, FILTER, x0, N, p0, N * N) == ESTIMATORS_OK && filter[STATE] == 0, "until a reset");
 }
 
 /* The sizes and lengths that are wrong where `right` is right. */
@@ -168,9 +168,9 @@ static void wrong_sizes(const tracker *t)
             memcpy(sizes, right, sizeof sizes);
             sizes[which] = wrong(right[which], k);
             if (sizes[which] == right[which]) continue;
-            check(kalman_predict(sizes[0], sizes[1], sizes[2], filter, sizes[3], none, sizes[4]) == ESTIMATORS_REFUSED_SIZE,
+            check(estimators_kalman_predict(sizes[0], sizes[1], sizes[2], filter, sizes[3], none, sizes[4]) == ESTIMATORS_REFUSED_SIZE,
                 "predict with a wrong size");
-            check(kalman_update(sizes[0], sizes[1], sizes[2], filter, sizes[3], none, sizes[4], innovation, M)
+            check(estimators_kalman_update(sizes[0], sizes[1], sizes[2], filter, sizes[3], none, sizes[4], innovation, M)
                 == ESTIMATORS_REFUSED_SIZE, "update with a wrong size");
         }
         for (k = 0; k < 7; k++) {
@@ -179,11 +179,11 @@ static void wrong_sizes(const tracker *t)
             sizes[which] = which == 4 ? ROOM + 1 + (uint64_t)k : wrong(right[which], k);
             if (sizes[which] == right[which]) continue;
             count = sizes[4];
-            check(rts_smoother_store_forward(sizes[0], sizes[1], &count, slots, sizes[2], filter + STATE, sizes[3],
+            check(estimators_rts_smoother_store_forward(sizes[0], sizes[1], &count, slots, sizes[2], filter + STATE, sizes[3],
                 filter + STATE, PAIR) == ESTIMATORS_REFUSED_SIZE && count == sizes[4], "a store with a wrong size");
-            check(rts_smoother_get_state(sizes[0], sizes[1], count, slots, sizes[2], 0, slot, 2 * sizes[3])
+            check(estimators_rts_smoother_get_state(sizes[0], sizes[1], count, slots, sizes[2], 0, slot, 2 * sizes[3])
                 == ESTIMATORS_REFUSED_SIZE, "a slot with a wrong size");
-            check(rts_smoother_smooth(sizes[0], sizes[1], count, slots, sizes[2], filter, N * N, output, ROOM * sizes[3])
+            check(estimators_rts_smoother_smooth(sizes[0], sizes[1], count, slots, sizes[2], filter, N * N, output, ROOM * sizes[3])
                 == ESTIMATORS_REFUSED_SIZE, "smoothing with a wrong size");
         }
     }
@@ -199,20 +199,20 @@ static void other_refusals(const tracker *t)
     double out[N * N] = {7, 7, 7, 7}, slot[SLOT], filter[FILTER], before[FILTER], innovation[M] = {7}, slots[SLOTS];
     uint64_t count = ROOM;
 
-    check(matrix_inv(N, flat, N * N, out, N * N) == ESTIMATORS_REFUSED_INVERSE && out[0] == 7, "no inverse");
-    check(matrix_cholesky(N, falling, N * N, out, N * N) == ESTIMATORS_REFUSED_FACTOR && out[3] == 7, "no factor");
+    check(estimators_matrix_inv(N, flat, N * N, out, N * N) == ESTIMATORS_REFUSED_INVERSE && out[0] == 7, "no inverse");
+    check(estimators_matrix_cholesky(N, falling, N * N, out, N * N) == ESTIMATORS_REFUSED_FACTOR && out[3] == 7, "no factor");
     memcpy(slots, t->slots, sizeof slots);
-    check(rts_smoother_store_forward(N, ROOM, &count, slots, SLOTS, t->filter + STATE, PAIR, t->filter + STATE, PAIR)
+    check(estimators_rts_smoother_store_forward(N, ROOM, &count, slots, SLOTS, t->filter + STATE, PAIR, t->filter + STATE, PAIR)
         == ESTIMATORS_REFUSED_FULL && count == ROOM, "a full buffer");
     check(memcmp(slots, t->slots, sizeof slots) == 0, "a full buffer stays");
-    check(rts_smoother_get_state(N, ROOM, 3, slots, SLOTS, 3, slot, SLOT) == ESTIMATORS_REFUSED_SLOT, "a slot past the count");
-    check(rts_smoother_get_state(N, ROOM, 3, slots, SLOTS, UINT64_MAX, slot, SLOT) == ESTIMATORS_REFUSED_SLOT, "a slot far past it");
-    check(rts_smoother_get_state(N, ROOM, 3, slots, SLOTS, 2, slot, SLOT) == ESTIMATORS_OK
+    check(estimators_rts_smoother_get_state(N, ROOM, 3, slots, SLOTS, 3, slot, SLOT) == ESTIMATORS_REFUSED_SLOT, "a slot past the count");
+    check(estimators_rts_smoother_get_state(N, ROOM, 3, slots, SLOTS, UINT64_MAX, slot, SLOT) == ESTIMATORS_REFUSED_SLOT, "a slot far past it");
+    check(estimators_rts_smoother_get_state(N, ROOM, 3, slots, SLOTS, 2, slot, SLOT) == ESTIMATORS_OK
         && memcmp(slot, slots + ESTIMATORS_SLOT_STATE(N, 2), sizeof slot) == 0, "a slot that is stored");
-    check(kalman_position_velocity(1.0, 0.0, 0.0, filter, FILTER) == ESTIMATORS_OK, "a filter without noise");
+    check(estimators_kalman_position_velocity(1.0, 0.0, 0.0, filter, FILTER) == ESTIMATORS_OK, "a filter without noise");
     memset(filter + ESTIMATORS_FILTER_COVARIANCE(N, M, I), 0, N * N * sizeof(double));
     memcpy(before, filter, sizeof filter);
-    check(kalman_update(N, M, I, filter, FILTER, none, M, innovation, M) == ESTIMATORS_REFUSED_INVERSE, "no variance at all");
+    check(estimators_kalman_update(N, M, I, filter, FILTER, none, M, innovation, M) == ESTIMATORS_REFUSED_INVERSE, "no variance at all");
     check(memcmp(filter, before, sizeof filter) == 0 && innovation[0] == 7, "a refused update changes nothing");
 }
 
@@ -224,13 +224,13 @@ static void places(void)
     double filter[FILTER], root[SQRT], models[MODELS * MODEL], bank[BANK], out[N * N], one;
     int k;
 
-    check(kalman_new(N, M, I, a, N * N, b, N * I, h, M * N, q, N * N, r, M * M, x0, N, p0, N * N, filter, FILTER)
+    check(estimators_kalman_new(N, M, I, a, N * N, b, N * I, h, M * N, q, N * N, r, M * M, x0, N, p0, N * N, filter, FILTER)
         == ESTIMATORS_OK && filter[STATE] == 5 && filter[ESTIMATORS_FILTER_COVARIANCE(N, M, I)] == 4, "a linear filter's places");
-    check(kalman_covariance(N, M, I, filter, FILTER, out, N * N) == ESTIMATORS_OK && out[3] == 16, "and its covariance");
-    check(information_new(N, M, I, a, N * N, b, N * I, h, M * N, q, N * N, r, M * M, x0, N, p0, N * N, filter, FILTER)
+    check(estimators_kalman_covariance(N, M, I, filter, FILTER, out, N * N) == ESTIMATORS_OK && out[3] == 16, "and its covariance");
+    check(estimators_information_new(N, M, I, a, N * N, b, N * I, h, M * N, q, N * N, r, M * M, x0, N, p0, N * N, filter, FILTER)
         == ESTIMATORS_OK && filter[ESTIMATORS_INFORMATION_VECTOR(N, M, I)] == 1.25
         && filter[ESTIMATORS_INFORMATION_MATRIX(N, M, I)] == 0.25, "an information filter's places");
-    check(sqrt_kalman_new(N, M, I, a, N * N, b, N * I, h, M * N, q, N * N, r, M, x0, N, p0, N * N, root, SQRT)
+    check(estimators_sqrt_kalman_new(N, M, I, a, N * N, b, N * I, h, M * N, q, N * N, r, M, x0, N, p0, N * N, root, SQRT)
         == ESTIMATORS_OK && root[ESTIMATORS_SQRT_STATE(N, M, I)] == 5 && root[ESTIMATORS_SQRT_FACTOR(N, M, I)] == 2,
         "a square-root filter's places");
     for (k = 0; k < MODELS; k++) {
@@ -239,12 +239,12 @@ static void places(void)
         models[ESTIMATORS_BANK_COVARIANCE(N, k)] = 4;
         models[ESTIMATORS_BANK_LIKELIHOOD(N, k)] = 1 + 2 * k;
     }
-    check(imm_new(N, M, MODELS, models, MODELS * MODEL, half, MODELS * MODELS, h, M * N, r, M * M, bank, BANK)
+    check(estimators_imm_new(N, M, MODELS, models, MODELS * MODEL, half, MODELS * MODELS, h, M * N, r, M * M, bank, BANK)
         == ESTIMATORS_OK && bank[ESTIMATORS_BANK_PROBABILITIES(N, M, MODELS)] == 0.5, "a bank's places");
-    check(imm_fused_estimate(N, M, MODELS, bank, BANK, out, N) == ESTIMATORS_OK && out[0] == 5.5, "its states");
-    check(imm_update_probabilities(N, M, MODELS, bank, BANK) == ESTIMATORS_OK, "its likelihoods");
-    check(imm_model_probability(N, M, MODELS, bank, BANK, 1, &one) == ESTIMATORS_OK && one == 0.75, "and probabilities");
-    check(imm_model_probability(N, M, MODELS, bank, BANK, 2, &one) == ESTIMATORS_REFUSED_SIZE && one == 0.75, "a third model");
+    check(estimators_imm_fused_estimate(N, M, MODELS, bank, BANK, out, N) == ESTIMATORS_OK && out[0] == 5.5, "its states");
+    check(estimators_imm_update_probabilities(N, M, MODELS, bank, BANK) == ESTIMATORS_OK, "its likelihoods");
+    check(estimators_imm_model_probability(N, M, MODELS, bank, BANK, 1, &one) == ESTIMATORS_OK && one == 0.75, "and probabilities");
+    check(estimators_imm_model_probability(N, M, MODELS, bank, BANK, 2, &one) == ESTIMATORS_REFUSED_SIZE && one == 0.75, "a third model");
 }
 
 /* Sheets of any bytes: a report, within its room. */
@@ -256,13 +256,13 @@ static void sheets(void)
     unsigned state = 1;
     int k, length;
 
-    check(sheet_report(sheet, 0, report, ESTIMATORS_REPORT - 1, &written) == ESTIMATORS_REFUSED_SIZE && written == 7, "a short output");
+    check(estimators_sheet_report(sheet, 0, report, ESTIMATORS_REPORT - 1, &written) == ESTIMATORS_REFUSED_SIZE && written == 7, "a short output");
     for (length = 0; length < ESTIMATORS_SHEET; length += 31) {
         for (k = 0; k < length; k++) {
             state = state * 1103515245u + 12345u;
             sheet[k] = length % 2 ? (uint8_t)likely[(state >> 16) % 17] : (uint8_t)(state >> 16);
         }
-        check(sheet_report(sheet, (uint64_t)length, report, sizeof report, &written) == ESTIMATORS_OK
+        check(estimators_sheet_report(sheet, (uint64_t)length, report, sizeof report, &written) == ESTIMATORS_OK
             && written == 17 && report[7] == '0' + ESTIMATORS_SHEET_FORM && report[16] == '\n', "a sheet of any bytes");
     }
 }

@@ -1,4 +1,4 @@
-/* sheet FILE: the report of a depot sheet in a file, by sheet_report. What stands past the longest sheet and one byte more plays no
+/* sheet FILE: the report of a depot sheet in a file, by estimators_sheet_report. What stands past the longest sheet and one byte more plays no
  * part in a report, so 1,418 bytes of the file are enough. */
 #include "estimators.h"
 #include <stdio.h>
@@ -21,7 +21,7 @@ int main(int count, char **words)
     }
     length = fread(sheet, 1, sizeof sheet, file);
     fclose(file);
-    if (sheet_report(sheet, length, report, sizeof report, &written) != ESTIMATORS_OK)
+    if (estimators_sheet_report(sheet, length, report, sizeof report, &written) != ESTIMATORS_OK)
         return 1; /* not reached: the report has its room */
     return fwrite(report, 1, (size_t)written, stdout) == written ? 0 : 1;
 }

@@ -30,19 +30,19 @@ static uint8_t drive(double *filter, double *slots, double *filtered)
     const double none[I] = {0};
     double ahead[FILTER], innovation[M];
     uint64_t stored = 0;
-    uint8_t told = kalman_position_velocity(STEP, 0.25, 8.0, filter, FILTER);
+    uint8_t told = estimators_kalman_position_velocity(STEP, 0.25, 8.0, filter, FILTER);
 
     for (int k = 0; told == ESTIMATORS_OK && k < READINGS; k++) {
-        told = kalman_predict(N, M, I, filter, FILTER, none, I);
+        told = estimators_kalman_predict(N, M, I, filter, FILTER, none, I);
         if (told == ESTIMATORS_OK && wheel[k] >= 0)
-            told = kalman_update(N, M, I, filter, FILTER, &wheel[k], M, innovation, M);
+            told = estimators_kalman_update(N, M, I, filter, FILTER, &wheel[k], M, innovation, M);
         if (told != ESTIMATORS_OK) break;
         filtered[k] = filter[STATE];
         /* A slot's predicted pair is for the reading after it. */
         memcpy(ahead, filter, sizeof ahead);
-        told = kalman_predict(N, M, I, ahead, FILTER, none, I);
+        told = estimators_kalman_predict(N, M, I, ahead, FILTER, none, I);
         if (told == ESTIMATORS_OK)
-            told = rts_smoother_store_forward(N, READINGS, &stored, slots, SLOTS, filter + STATE, PAIR, ahead + STATE, PAIR);
+            told = estimators_rts_smoother_store_forward(N, READINGS, &stored, slots, SLOTS, filter + STATE, PAIR, ahead + STATE, PAIR);
     }
     return told;
 }
@@ -54,7 +54,7 @@ int main(void)
 
     /* A filter begins with its transition. */
     if (told == ESTIMATORS_OK)
-        told = rts_smoother_smooth(N, READINGS, READINGS, slots, SLOTS, filter, N * N, smoothed, SMOOTHED);
+        told = estimators_rts_smoother_smooth(N, READINGS, READINGS, slots, SLOTS, filter, N * N, smoothed, SMOOTHED);
     if (told != ESTIMATORS_OK) {
         printf("refused %d\n", told);
         return told;

@@ -20,17 +20,17 @@ const ENDS: [f64; 4] = [280., 600., 740., 1200.];
 mod entries {
     #[link(name = "estimators", kind = "static")]
     extern "C" {
-        pub fn kalman_position_velocity(dt: f64, process_noise: f64, measurement_noise: f64, filter: *mut f64, len: usize) -> u8;
-        pub fn kalman_predict(n: usize, m: usize, i: usize, filter: *mut f64, len: usize, u: *const f64, u_len: usize) -> u8;
-        pub fn kalman_update(
+        pub fn estimators_kalman_position_velocity(dt: f64, process_noise: f64, measurement_noise: f64, filter: *mut f64, len: usize) -> u8;
+        pub fn estimators_kalman_predict(n: usize, m: usize, i: usize, filter: *mut f64, len: usize, u: *const f64, u_len: usize) -> u8;
+        pub fn estimators_kalman_update(
             n: usize, m: usize, i: usize, filter: *mut f64, len: usize,
             z: *const f64, z_len: usize, innovation: *mut f64, innovation_len: usize,
         ) -> u8;
-        pub fn rts_smoother_store_forward(
+        pub fn estimators_rts_smoother_store_forward(
             n: usize, room: usize, count: *mut usize, slots: *mut f64, slots_len: usize,
             filtered: *const f64, filtered_len: usize, predicted: *const f64, predicted_len: usize,
         ) -> u8;
-        pub fn rts_smoother_smooth(
+        pub fn estimators_rts_smoother_smooth(
             n: usize, room: usize, count: usize, slots: *const f64, slots_len: usize,
             transition: *const f64, transition_len: usize, output: *mut f64, output_len: usize,
         ) -> u8;
@@ -46,12 +46,12 @@ fn told(number: u8) -> Result<(), u8> {
 
 fn predict(filter: &mut [f64]) -> Result<(), u8> {
     let none = [0.0; I];
-    told(unsafe { entries::kalman_predict(N, M, I, filter.as_mut_ptr(), filter.len(), none.as_ptr(), none.len()) })
+    told(unsafe { entries::estimators_kalman_predict(N, M, I, filter.as_mut_ptr(), filter.len(), none.as_ptr(), none.len()) })
 }
 
 fn update(filter: &mut [f64], reading: &[f64], innovation: &mut [f64]) -> Result<(), u8> {
     told(unsafe {
-        entries::kalman_update(
+        entries::estimators_kalman_update(
             N, M, I, filter.as_mut_ptr(), filter.len(),
             reading.as_ptr(), reading.len(), innovation.as_mut_ptr(), innovation.len(),
         )
@@ -60,7 +60,7 @@ fn update(filter: &mut [f64], reading: &[f64], innovation: &mut [f64]) -> Result
 
 fn store(count: &mut usize, slots: &mut [f64], filtered: &[f64], predicted: &[f64]) -> Result<(), u8> {
     told(unsafe {
-        entries::rts_smoother_store_forward(
+        entries::estimators_rts_smoother_store_forward(
             N, READINGS, count, slots.as_mut_ptr(), slots.len(),
             filtered.as_ptr(), filtered.len(), predicted.as_ptr(), predicted.len(),
         )
@@ -69,7 +69,7 @@ fn store(count: &mut usize, slots: &mut [f64], filtered: &[f64], predicted: &[f6
 
 fn smooth(count: usize, slots: &[f64], transition: &[f64], output: &mut [f64]) -> Result<(), u8> {
     told(unsafe {
-        entries::rts_smoother_smooth(
+        entries::estimators_rts_smoother_smooth(
             N, READINGS, count, slots.as_ptr(), slots.len(),
             transition.as_ptr(), transition.len(), output.as_mut_ptr(), output.len(),
         )
@@ -85,7 +85,7 @@ fn stage_of(place: f64) -> usize {
 fn duty() -> Result<(Vec<f64>, Vec<f64>), u8> {
     let (mut filter, mut slots, mut stored) = ([0.0; FILTER], [0.0; READINGS * SLOT], 0);
     let mut filtered = Vec::new();
-    told(unsafe { entries::kalman_position_velocity(STEP as f64, 0.25, 8.0, filter.as_mut_ptr(), FILTER) })?;
+    told(unsafe { entries::estimators_kalman_position_velocity(STEP as f64, 0.25, 8.0, filter.as_mut_ptr(), FILTER) })?;
     for reading in WHEEL {
         predict(&mut filter)?;
         if reading >= 0.0 {

@@ -49,9 +49,9 @@ fn accepted(status: u8) {
 
 fn port<const N: usize>(bank: &mut [f64], out: &mut [f64]) {
     let (at, len) = (bank.as_mut_ptr(), bank.len());
-    accepted(unsafe { imm_mix_estimates(N, 1, 2, at, len) });
-    accepted(unsafe { imm_update_probabilities(N, 1, 2, at, len) });
-    accepted(unsafe { imm_fused_estimate(N, 1, 2, at, len, out.as_mut_ptr(), out.len()) });
+    accepted(unsafe { estimators_imm_mix_estimates(N, 1, 2, at, len) });
+    accepted(unsafe { estimators_imm_update_probabilities(N, 1, 2, at, len) });
+    accepted(unsafe { estimators_imm_fused_estimate(N, 1, 2, at, len, out.as_mut_ptr(), out.len()) });
 }
 
 pub fn mixing<const N: usize>() {

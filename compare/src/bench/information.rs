@@ -1,6 +1,6 @@
 //! The information filter: a prediction and an update, through the C interface beside the Rust.
 
-use crate::entries::{information_from_information, information_predict, information_update};
+use crate::entries::{estimators_information_from_information, estimators_information_predict, estimators_information_update};
 use crate::{agree, definite, flat, keep, row, rust};
 use oxictl::estimator::information_filter::InformationFilter;
 use std::hint::black_box;
@@ -43,7 +43,7 @@ impl Port {
         let [a, b, h, q, r, w, v] = parts.each_ref().map(|part| (part.as_ptr(), part.len()));
         let to = (cells.as_mut_ptr(), cells.len());
         let status = unsafe {
-            information_from_information(
+            estimators_information_from_information(
                 N, M, I, a.0, a.1, b.0, b.1, h.0, h.1, q.0, q.1, r.0, r.1, w.0, w.1, v.0, v.1, to.0, to.1,
             )
         };
@@ -57,8 +57,8 @@ impl Port {
         let (to, to_len) = (self.innovation.as_mut_ptr(), self.innovation.len());
         let statuses = unsafe {
             [
-                information_predict(n, m, i, cells, len, u.as_ptr(), u.len()),
-                information_update(n, m, i, cells, len, z.as_ptr(), z.len(), to, to_len),
+                estimators_information_predict(n, m, i, cells, len, u.as_ptr(), u.len()),
+                estimators_information_update(n, m, i, cells, len, z.as_ptr(), z.len(), to, to_len),
             ]
         };
         assert!(black_box(statuses) == [0, 0], "the port refused a call of the bench");

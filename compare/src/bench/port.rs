@@ -10,28 +10,28 @@ fn accepted(status: u8) {
 }
 
 pub fn root(x: f64) -> f64 {
-    unsafe { scalar_sqrt(x) }
+    unsafe { estimators_scalar_sqrt(x) }
 }
 
 pub fn matmul(n: usize, a: &[f64], b: &[f64], out: &mut [f64]) {
     let (a, b) = ((a.as_ptr(), a.len()), (b.as_ptr(), b.len()));
     let (to, len) = (out.as_mut_ptr(), out.len());
-    accepted(unsafe { matrix_matmul(n, n, n, a.0, a.1, b.0, b.1, to, len) })
+    accepted(unsafe { estimators_matrix_matmul(n, n, n, a.0, a.1, b.0, b.1, to, len) })
 }
 
 pub fn inv(n: usize, a: &[f64], out: &mut [f64]) {
-    accepted(unsafe { matrix_inv(n, a.as_ptr(), a.len(), out.as_mut_ptr(), out.len()) })
+    accepted(unsafe { estimators_matrix_inv(n, a.as_ptr(), a.len(), out.as_mut_ptr(), out.len()) })
 }
 
 pub fn cholesky(n: usize, a: &[f64], out: &mut [f64]) {
-    accepted(unsafe { matrix_cholesky(n, a.as_ptr(), a.len(), out.as_mut_ptr(), out.len()) })
+    accepted(unsafe { estimators_matrix_cholesky(n, a.as_ptr(), a.len(), out.as_mut_ptr(), out.len()) })
 }
 
 /// How many bytes of `out` are the answer.
 pub fn sheet(bytes: &[u8], out: &mut [u8]) -> usize {
     let mut written = 0;
     let (to, len) = (out.as_mut_ptr(), out.len());
-    accepted(unsafe { sheet_report(bytes.as_ptr(), bytes.len(), to, len, &mut written) });
+    accepted(unsafe { estimators_sheet_report(bytes.as_ptr(), bytes.len(), to, len, &mut written) });
     written
 }
 
@@ -71,9 +71,9 @@ impl Filter {
     pub fn predict_update(&mut self, u: &[f64], z: &[f64]) {
         let [n, m, i] = self.sizes;
         let (cells, len) = (self.cells.as_mut_ptr(), self.cells.len());
-        accepted(unsafe { kalman_predict(n, m, i, cells, len, u.as_ptr(), u.len()) });
+        accepted(unsafe { estimators_kalman_predict(n, m, i, cells, len, u.as_ptr(), u.len()) });
         let to = self.innovation.as_mut_ptr();
-        accepted(unsafe { kalman_update(n, m, i, cells, len, z.as_ptr(), z.len(), to, m) });
+        accepted(unsafe { estimators_kalman_update(n, m, i, cells, len, z.as_ptr(), z.len(), to, m) });
         black_box(&self.innovation);
     }
 }
@@ -98,7 +98,7 @@ impl Smoother {
         let (slots, len) = (self.slots.as_ptr(), self.slots.len());
         let (to, to_len) = (self.output.as_mut_ptr(), self.output.len());
         accepted(unsafe {
-            rts_smoother_smooth(self.n, 64, count, slots, len, a.as_ptr(), a.len(), to, to_len)
+            estimators_rts_smoother_smooth(self.n, 64, count, slots, len, a.as_ptr(), a.len(), to, to_len)
         });
         black_box(&self.output);
     }

@@ -1,6 +1,6 @@
 //! The rows of the square-root filter: a prediction and an update, in the Rust and through the C interface.
 
-use crate::entries::{sqrt_kalman_predict, sqrt_kalman_update};
+use crate::entries::{estimators_sqrt_kalman_predict, estimators_sqrt_kalman_update};
 use crate::{agree, definite, flat, row, rust};
 use oxictl::core::matrix::Matrix;
 use oxictl::estimator::sqrt_kalman::SqrtKalman;
@@ -51,8 +51,8 @@ fn port<const N: usize, const M: usize, const I: usize>(filter: &mut [f64], u: &
     let (to, len, mut y) = (filter.as_mut_ptr(), filter.len(), [0.0; M]);
     let statuses = unsafe {
         [
-            sqrt_kalman_predict(N, M, I, to, len, u.as_ptr(), I),
-            sqrt_kalman_update(N, M, I, to, len, z.as_ptr(), M, y.as_mut_ptr(), M),
+            estimators_sqrt_kalman_predict(N, M, I, to, len, u.as_ptr(), I),
+            estimators_sqrt_kalman_update(N, M, I, to, len, z.as_ptr(), M, y.as_mut_ptr(), M),
         ]
     };
     assert!(black_box(statuses) == [0, 0], "the port refused a call of the bench");

@@ -20,7 +20,7 @@ impl Bank {
         &self.lent.cells()[self.lent.len() - self.k..]
     }
 
-    /// The bank that imm_new makes of the call's words.
+    /// The bank that estimators_imm_new makes of the call's words.
     fn read(w: &mut Words) -> Result<Self, Bad> {
         let (n, m, k) = (w.size()?, w.size()?, w.size()?);
         let sizes = [k * (3 * n * n + n + 1), k * k, m * n, m * m];
@@ -33,16 +33,16 @@ impl Bank {
         let [models, transition, c, r] = parts;
         let (to, len) = (lent.ptr(), lent.len());
         let status = unsafe {
-            imm_new(n, m, k, models, sizes[0], transition, sizes[1], c, sizes[2], r, sizes[3], to, len)
+            estimators_imm_new(n, m, k, models, sizes[0], transition, sizes[1], c, sizes[2], r, sizes[3], to, len)
         };
         match status {
             0 if same(&lent.cells()[..given.len()], &given) => Ok(Bank { n, m, k, lent }),
-            0 => Err("imm_new made another bank"),
-            _ => Err("imm_new refused"),
+            0 => Err("estimators_imm_new made another bank"),
+            _ => Err("estimators_imm_new refused"),
         }
     }
 
-    /// Other probabilities than those of imm_new.
+    /// Other probabilities than those of estimators_imm_new.
     fn set_mu(&mut self, mu: &[f64]) {
         let from = self.lent.len() - self.k;
         let cells = unsafe { std::slice::from_raw_parts_mut(self.lent.ptr().add(from), self.k) };
@@ -83,7 +83,7 @@ impl Bank {
     fn fused(&mut self, answer: &mut Answer) -> Result<u8, Bad> {
         let mut out = Lent::new(self.n);
         let (bank, len) = (self.lent.cells().as_ptr(), self.lent.len());
-        let status = unsafe { imm_fused_estimate(self.n, self.m, self.k, bank, len, out.ptr(), self.n) };
+        let status = unsafe { estimators_imm_fused_estimate(self.n, self.m, self.k, bank, len, out.ptr(), self.n) };
         out.ends()?;
         answer.numbers(out.cells());
         Ok(status)
@@ -93,7 +93,7 @@ impl Bank {
         let mut out = Lent::new(1);
         let model = w.index(self.k)?;
         let (bank, len) = (self.lent.cells().as_ptr(), self.lent.len());
-        let status = unsafe { imm_model_probability(self.n, self.m, self.k, bank, len, model, out.ptr()) };
+        let status = unsafe { estimators_imm_model_probability(self.n, self.m, self.k, bank, len, model, out.ptr()) };
         out.ends()?;
         answer.numbers(out.cells());
         Ok(status)
@@ -112,8 +112,8 @@ pub fn call(op: &[u8], w: &mut Words, answer: &mut Answer) -> Result<(), Bad> {
     answer.ok();
     let status = match op {
         b"imm_new" => 0,
-        b"imm_mix" => unsafe { imm_mix_estimates(n, m, k, at, len) },
-        b"imm_probs" => unsafe { imm_update_probabilities(n, m, k, at, len) },
+        b"imm_mix" => unsafe { estimators_imm_mix_estimates(n, m, k, at, len) },
+        b"imm_probs" => unsafe { estimators_imm_update_probabilities(n, m, k, at, len) },
         b"imm_fused" => bank.fused(answer)?,
         b"imm_prob" => bank.probability(w, answer)?,
         _ => return Err("unknown call"),

@@ -25,7 +25,7 @@ impl Filter {
         &self.lent.cells()[self.model_len()..]
     }
 
-    /// The filter that the call's words make by information_new, or by information_from_information; none where it is refused.
+    /// The filter that the call's words make by estimators_information_new, or by estimators_information_from_information; none where it is refused.
     fn read(new: bool, w: &mut Words, answer: &mut Answer) -> Result<Option<Self>, Bad> {
         let (n, m, i) = (w.size()?, w.size()?, w.size()?);
         let model = [w.cells(n * n)?, w.cells(n * i)?, w.cells(m * n)?, w.cells(n * n)?, w.cells(m * m)?];
@@ -35,7 +35,7 @@ impl Filter {
         let [a, b, h, q, r] = &model;
         let [s, t] = &last;
         let to = lent.ptr();
-        let entry = if new { information_new } else { information_from_information };
+        let entry = if new { estimators_information_new } else { estimators_information_from_information };
         let status = unsafe {
             entry(
                 n,
@@ -69,7 +69,7 @@ impl Filter {
             return Err("another model was made");
         }
         if !new && !same(filter.kept(), &[t.as_slice(), s.as_slice()].concat()) {
-            return Err("information_from_information made another filter");
+            return Err("estimators_information_from_information made another filter");
         }
         Ok(Some(filter))
     }
@@ -86,16 +86,16 @@ impl Filter {
         (status, out)
     }
 
-    /// Omega and xi left behind; information_matrix and information_vector must copy them.
+    /// Omega and xi left behind; estimators_information_matrix and estimators_information_vector must copy them.
     fn answer_left(&mut self, answer: &mut Answer) -> Result<(), Bad> {
         self.lent.ends()?;
         let n = self.n;
-        let (matrix, omega) = self.read_out(information_matrix, n * n);
-        let (vector, xi) = self.read_out(information_vector, n);
+        let (matrix, omega) = self.read_out(estimators_information_matrix, n * n);
+        let (vector, xi) = self.read_out(estimators_information_vector, n);
         omega.ends()?;
         xi.ends()?;
         if [matrix, vector] != [0, 0] || !same(&[xi.cells(), omega.cells()].concat(), self.kept()) {
-            return Err("information_matrix or information_vector gave other numbers than the filter's");
+            return Err("estimators_information_matrix or estimators_information_vector gave other numbers than the filter's");
         }
         answer.bar();
         answer.numbers(omega.cells());
@@ -106,7 +106,7 @@ impl Filter {
     fn predict(&mut self, w: &mut Words, answer: &mut Answer) -> Result<Told, Bad> {
         let u = w.cells(self.i)?;
         let (filter, len) = (self.lent.ptr(), self.lent.len());
-        let status = unsafe { information_predict(self.n, self.m, self.i, filter, len, u.as_ptr(), u.len()) };
+        let status = unsafe { estimators_information_predict(self.n, self.m, self.i, filter, len, u.as_ptr(), u.len()) };
         if status == 0 {
             answer.ok();
         }
@@ -119,7 +119,7 @@ impl Filter {
         let (filter, len) = (self.lent.ptr(), self.lent.len());
         let (to, to_len) = (innovation.ptr(), innovation.len());
         let status = unsafe {
-            information_update(self.n, self.m, self.i, filter, len, z.as_ptr(), z.len(), to, to_len)
+            estimators_information_update(self.n, self.m, self.i, filter, len, z.as_ptr(), z.len(), to, to_len)
         };
         match status {
             0 => innovation.answer(status, answer)?,
@@ -134,7 +134,7 @@ impl Filter {
             let (h, r_inv, z) = (w.cells(self.m * self.n)?, w.cells(self.m * self.m)?, w.cells(self.m)?);
             let (filter, len) = (self.lent.ptr(), self.lent.len());
             let status = unsafe {
-                information_fuse_sensor(
+                estimators_information_fuse_sensor(
                     self.n,
                     self.m,
                     self.i,
@@ -160,7 +160,7 @@ impl Filter {
         let (x0, p0) = (w.cells(self.n)?, w.cells(self.n * self.n)?);
         let (filter, len) = (self.lent.ptr(), self.lent.len());
         let status = unsafe {
-            information_reset(
+            estimators_information_reset(
                 self.n,
                 self.m,
                 self.i,
@@ -182,8 +182,8 @@ impl Filter {
     fn told(&mut self, state: bool, answer: &mut Answer) -> Result<Told, Bad> {
         let n = self.n;
         let (status, mut out) = match state {
-            true => self.read_out(information_state, n),
-            false => self.read_out(information_covariance, n * n),
+            true => self.read_out(estimators_information_state, n),
+            false => self.read_out(estimators_information_covariance, n * n),
         };
         match status {
             0 => out.answer(status, answer)?,

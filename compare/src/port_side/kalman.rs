@@ -26,7 +26,7 @@ impl Filter {
         &self.lent.cells()[self.model_len()..]
     }
 
-    /// The filter that kalman_new makes of the call's words.
+    /// The filter that estimators_kalman_new makes of the call's words.
     fn read(w: &mut Words) -> Result<Self, Bad> {
         let (n, m, i) = (w.size()?, w.size()?, w.size()?);
         let sizes = [n * n, n * i, m * n, n * n, m * m, n, n * n];
@@ -39,19 +39,19 @@ impl Filter {
         let [a, b, h, q, r, x, p] = parts;
         let (to, len) = (lent.ptr(), lent.len());
         let status = unsafe {
-            kalman_new(
+            estimators_kalman_new(
                 n, m, i, a, sizes[0], b, sizes[1], h, sizes[2], q, sizes[3], r, sizes[4], x, sizes[5], p,
                 sizes[6], to, len,
             )
         };
         match status {
             0 if same(lent.cells(), &given) => Ok(Filter { n, m, i, lent }),
-            0 => Err("kalman_new made another filter"),
-            _ => Err("kalman_new refused"),
+            0 => Err("estimators_kalman_new made another filter"),
+            _ => Err("estimators_kalman_new refused"),
         }
     }
 
-    /// The state and the covariance left behind; kalman_state and kalman_covariance must copy them.
+    /// The state and the covariance left behind; estimators_kalman_state and estimators_kalman_covariance must copy them.
     fn answer_estimate(&mut self, answer: &mut Answer) -> Result<(), Bad> {
         self.lent.ends()?;
         let (n, m, i) = (self.n, self.m, self.i);
@@ -59,15 +59,15 @@ impl Filter {
         let (from, len) = (self.lent.cells().as_ptr(), self.lent.len());
         let statuses = unsafe {
             [
-                kalman_state(n, m, i, from, len, x.ptr(), n),
-                kalman_covariance(n, m, i, from, len, p.ptr(), n * n),
+                estimators_kalman_state(n, m, i, from, len, x.ptr(), n),
+                estimators_kalman_covariance(n, m, i, from, len, p.ptr(), n * n),
             ]
         };
         x.ends()?;
         p.ends()?;
         let copies = [x.cells(), p.cells()].concat();
         if statuses != [0, 0] || !same(&copies, self.estimate()) {
-            return Err("kalman_state or kalman_covariance gave other numbers than the filter's");
+            return Err("estimators_kalman_state or estimators_kalman_covariance gave other numbers than the filter's");
         }
         answer.bar();
         answer.numbers(self.estimate());
@@ -77,7 +77,7 @@ impl Filter {
     fn predict(&mut self, w: &mut Words, answer: &mut Answer) -> Result<u8, Bad> {
         let u = w.cells(self.i)?;
         let (filter, len) = (self.lent.ptr(), self.lent.len());
-        let status = unsafe { kalman_predict(self.n, self.m, self.i, filter, len, u.as_ptr(), u.len()) };
+        let status = unsafe { estimators_kalman_predict(self.n, self.m, self.i, filter, len, u.as_ptr(), u.len()) };
         if status == 0 {
             answer.ok();
         }
@@ -90,7 +90,7 @@ impl Filter {
         let (filter, len) = (self.lent.ptr(), self.lent.len());
         let (to, to_len) = (innovation.ptr(), innovation.len());
         let status =
-            unsafe { kalman_update(self.n, self.m, self.i, filter, len, z.as_ptr(), z.len(), to, to_len) };
+            unsafe { estimators_kalman_update(self.n, self.m, self.i, filter, len, z.as_ptr(), z.len(), to, to_len) };
         match status {
             0 => innovation.answer(status, answer)?,
             _ => innovation.untouched()?,
@@ -102,7 +102,7 @@ impl Filter {
         let (x0, p0) = (w.cells(self.n)?, w.cells(self.n * self.n)?);
         let (filter, len) = (self.lent.ptr(), self.lent.len());
         let status = unsafe {
-            kalman_reset(self.n, self.m, self.i, filter, len, x0.as_ptr(), x0.len(), p0.as_ptr(), p0.len())
+            estimators_kalman_reset(self.n, self.m, self.i, filter, len, x0.as_ptr(), x0.len(), p0.as_ptr(), p0.len())
         };
         if status == 0 {
             answer.ok();
@@ -137,7 +137,7 @@ fn position_velocity(w: &mut Words, answer: &mut Answer) -> Result<(), Bad> {
     let (dt, q, r) = (w.number()?, w.number()?, w.number()?);
     w.end()?;
     let to = filter.lent.ptr();
-    let status = unsafe { kalman_position_velocity(dt, q, r, to, 19) };
+    let status = unsafe { estimators_kalman_position_velocity(dt, q, r, to, 19) };
     if status != 0 {
         filter.lent.untouched()?;
         answer.refused(status);

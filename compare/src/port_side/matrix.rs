@@ -12,20 +12,20 @@ fn one_matrix(op: &[u8], w: &mut Words, answer: &mut Answer) -> Result<(), Bad> 
     let (to, len) = (out.ptr(), out.len());
     let status = unsafe {
         match op {
-            b"zeros" => matrix_zeros(r, c, to, len),
-            b"default" => matrix_default(r, c, to, len),
-            b"filled" => matrix_filled(r, c, w.number()?, to, len),
-            b"transpose" => matrix_transpose(r, c, w.cells(rc)?.as_ptr(), rc, to, len),
-            b"scale" => matrix_scale(r, c, w.cells(rc)?.as_ptr(), rc, w.number()?, to, len),
-            b"neg" => matrix_neg(r, c, w.cells(rc)?.as_ptr(), rc, to, len),
-            b"frob_norm" => matrix_frob_norm(r, c, w.cells(rc)?.as_ptr(), rc, to),
+            b"zeros" => estimators_matrix_zeros(r, c, to, len),
+            b"default" => estimators_matrix_default(r, c, to, len),
+            b"filled" => estimators_matrix_filled(r, c, w.number()?, to, len),
+            b"transpose" => estimators_matrix_transpose(r, c, w.cells(rc)?.as_ptr(), rc, to, len),
+            b"scale" => estimators_matrix_scale(r, c, w.cells(rc)?.as_ptr(), rc, w.number()?, to, len),
+            b"neg" => estimators_matrix_neg(r, c, w.cells(rc)?.as_ptr(), rc, to, len),
+            b"frob_norm" => estimators_matrix_frob_norm(r, c, w.cells(rc)?.as_ptr(), rc, to),
             b"get" => {
                 let (i, j) = (w.index(r)?, w.index(c)?);
-                matrix_get(r, c, i, j, w.cells(rc)?.as_ptr(), rc, to)
+                estimators_matrix_get(r, c, i, j, w.cells(rc)?.as_ptr(), rc, to)
             }
             b"set" => {
                 let (i, j) = (w.index(r)?, w.index(c)?);
-                matrix_set(r, c, i, j, w.cells(rc)?.as_ptr(), rc, w.number()?, to, len)
+                estimators_matrix_set(r, c, i, j, w.cells(rc)?.as_ptr(), rc, w.number()?, to, len)
             }
             _ => return Err("unknown call"),
         }
@@ -49,10 +49,10 @@ fn two_slices(op: &[u8], w: &mut Words, answer: &mut Answer) -> Result<(), Bad> 
     let (a, b) = (cells.0.as_ptr(), cells.1.as_ptr());
     let status = unsafe {
         match op {
-            b"add_mat" => matrix_add_mat(r, c, a, first, b, second, to, len),
-            b"sub_mat" => matrix_sub_mat(r, c, a, first, b, second, to, len),
-            b"matvec" => matrix_matvec(r, c, a, first, b, second, to, len),
-            _ => matrix_outer(r, c, a, first, b, second, to, len),
+            b"add_mat" => estimators_matrix_add_mat(r, c, a, first, b, second, to, len),
+            b"sub_mat" => estimators_matrix_sub_mat(r, c, a, first, b, second, to, len),
+            b"matvec" => estimators_matrix_matvec(r, c, a, first, b, second, to, len),
+            _ => estimators_matrix_outer(r, c, a, first, b, second, to, len),
         }
     };
     out.answer(status, answer)
@@ -65,7 +65,7 @@ fn equal(w: &mut Words, answer: &mut Answer) -> Result<(), Bad> {
     w.end()?;
     let ask = |lent: u8| {
         let mut out = lent;
-        let status = unsafe { matrix_eq(r, c, a.as_ptr(), a.len(), b.as_ptr(), b.len(), &mut out) };
+        let status = unsafe { estimators_matrix_eq(r, c, a.as_ptr(), a.len(), b.as_ptr(), b.len(), &mut out) };
         (status, out)
     };
     match (ask(0), ask(1)) {
@@ -92,24 +92,24 @@ fn square(op: &[u8], w: &mut Words, answer: &mut Answer) -> Result<(), Bad> {
     let (to, len) = (out.ptr(), out.len());
     let status = unsafe {
         match op {
-            b"identity" => matrix_identity(n, to, len),
-            b"trace" => matrix_trace(n, w.cells(nn)?.as_ptr(), nn, to),
-            b"inv" => matrix_inv(n, w.cells(nn)?.as_ptr(), nn, to, len),
-            b"cholesky" => matrix_cholesky(n, w.cells(nn)?.as_ptr(), nn, to, len),
+            b"identity" => estimators_matrix_identity(n, to, len),
+            b"trace" => estimators_matrix_trace(n, w.cells(nn)?.as_ptr(), nn, to),
+            b"inv" => estimators_matrix_inv(n, w.cells(nn)?.as_ptr(), nn, to, len),
+            b"cholesky" => estimators_matrix_cholesky(n, w.cells(nn)?.as_ptr(), nn, to, len),
             b"vec_add" => {
                 let (v, u) = (w.cells(n)?, w.cells(n)?);
-                matrix_vec_add(n, v.as_ptr(), n, u.as_ptr(), n, to, len)
+                estimators_matrix_vec_add(n, v.as_ptr(), n, u.as_ptr(), n, to, len)
             }
             b"vec_sub" => {
                 let (v, u) = (w.cells(n)?, w.cells(n)?);
-                matrix_vec_sub(n, v.as_ptr(), n, u.as_ptr(), n, to, len)
+                estimators_matrix_vec_sub(n, v.as_ptr(), n, u.as_ptr(), n, to, len)
             }
             b"vec_dot" => {
                 let (v, u) = (w.cells(n)?, w.cells(n)?);
-                matrix_vec_dot(n, v.as_ptr(), n, u.as_ptr(), n, to)
+                estimators_matrix_vec_dot(n, v.as_ptr(), n, u.as_ptr(), n, to)
             }
-            b"vec_scale" => matrix_vec_scale(n, w.cells(n)?.as_ptr(), n, w.number()?, to, len),
-            b"vec_norm" => matrix_vec_norm(n, w.cells(n)?.as_ptr(), n, to),
+            b"vec_scale" => estimators_matrix_vec_scale(n, w.cells(n)?.as_ptr(), n, w.number()?, to, len),
+            b"vec_norm" => estimators_matrix_vec_norm(n, w.cells(n)?.as_ptr(), n, to),
             _ => return Err("unknown call"),
         }
     };
@@ -123,7 +123,7 @@ fn product(w: &mut Words, answer: &mut Answer) -> Result<(), Bad> {
     w.end()?;
     let mut out = Lent::new(r * c);
     let status =
-        unsafe { matrix_matmul(r, k, c, a.as_ptr(), a.len(), b.as_ptr(), b.len(), out.ptr(), out.len()) };
+        unsafe { estimators_matrix_matmul(r, k, c, a.as_ptr(), a.len(), b.as_ptr(), b.len(), out.ptr(), out.len()) };
     out.answer(status, answer)
 }
 

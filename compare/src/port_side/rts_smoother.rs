@@ -33,7 +33,7 @@ impl Smoother {
         let (x, xlen) = (filtered.as_ptr(), filtered.len());
         let (y, ylen) = (predicted.as_ptr(), predicted.len());
         let status = unsafe {
-            rts_smoother_store_forward(self.n, self.room, &mut self.count, slots, len, x, xlen, y, ylen)
+            estimators_rts_smoother_store_forward(self.n, self.room, &mut self.count, slots, len, x, xlen, y, ylen)
         };
         self.slots.ends()?;
         match status {
@@ -67,7 +67,7 @@ impl Smoother {
         let (to, to_len) = (output.ptr(), output.len());
         let (n, room, count) = (self.n, self.room, self.count);
         let status =
-            unsafe { rts_smoother_smooth(n, room, count, slots, len, a.as_ptr(), a.len(), to, to_len) };
+            unsafe { estimators_rts_smoother_smooth(n, room, count, slots, len, a.as_ptr(), a.len(), to, to_len) };
         if status != 0 {
             return output.answer(status, answer);
         }
@@ -106,7 +106,7 @@ fn get(smoother: &mut Smoother, w: &mut Words, answer: &mut Answer) -> Result<()
     let (slots, len) = (smoother.slots.cells().as_ptr(), smoother.slots.len());
     let (to, to_len) = (out.ptr(), out.len());
     let status = unsafe {
-        rts_smoother_get_state(smoother.n, smoother.room, smoother.count, slots, len, k, to, to_len)
+        estimators_rts_smoother_get_state(smoother.n, smoother.room, smoother.count, slots, len, k, to, to_len)
     };
     out.answer(status, answer)
 }

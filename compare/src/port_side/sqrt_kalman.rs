@@ -34,7 +34,7 @@ impl Filter {
         }
         let [a, b, h, q, r, x, s] = parts;
         let (to, len) = (lent.ptr(), lent.len());
-        let make = if new { sqrt_kalman_new } else { sqrt_kalman_from_cholesky };
+        let make = if new { estimators_sqrt_kalman_new } else { estimators_sqrt_kalman_from_cholesky };
         let status = unsafe {
             make(
                 n, m, i, a, sizes[0], b, sizes[1], h, sizes[2], q, sizes[3], r, sizes[4], x, sizes[5], s,
@@ -52,7 +52,7 @@ impl Filter {
         }
     }
 
-    /// The state and the factor left behind; sqrt_kalman_state and sqrt_kalman_cholesky_factor must copy them.
+    /// The state and the factor left behind; estimators_sqrt_kalman_state and estimators_sqrt_kalman_cholesky_factor must copy them.
     fn answer_held(&mut self, answer: &mut Answer) -> Result<(), Bad> {
         self.lent.ends()?;
         let (n, m, i) = (self.n, self.m, self.i);
@@ -60,15 +60,15 @@ impl Filter {
         let (from, len) = (self.lent.cells().as_ptr(), self.lent.len());
         let statuses = unsafe {
             [
-                sqrt_kalman_state(n, m, i, from, len, x.ptr(), n),
-                sqrt_kalman_cholesky_factor(n, m, i, from, len, s.ptr(), n * n),
+                estimators_sqrt_kalman_state(n, m, i, from, len, x.ptr(), n),
+                estimators_sqrt_kalman_cholesky_factor(n, m, i, from, len, s.ptr(), n * n),
             ]
         };
         x.ends()?;
         s.ends()?;
         if statuses != [0, 0] || !same(&[x.cells(), s.cells()].concat(), self.held()) {
             return Err(
-                "sqrt_kalman_state or sqrt_kalman_cholesky_factor gave other numbers than the filter's",
+                "estimators_sqrt_kalman_state or estimators_sqrt_kalman_cholesky_factor gave other numbers than the filter's",
             );
         }
         answer.bar();
@@ -79,7 +79,7 @@ impl Filter {
     fn predict(&mut self, w: &mut Words, answer: &mut Answer) -> Result<u8, Bad> {
         let u = w.cells(self.i)?;
         let (filter, len) = (self.lent.ptr(), self.lent.len());
-        let status = unsafe { sqrt_kalman_predict(self.n, self.m, self.i, filter, len, u.as_ptr(), u.len()) };
+        let status = unsafe { estimators_sqrt_kalman_predict(self.n, self.m, self.i, filter, len, u.as_ptr(), u.len()) };
         if status == 0 {
             answer.ok();
         }
@@ -92,7 +92,7 @@ impl Filter {
         let (filter, len) = (self.lent.ptr(), self.lent.len());
         let (to, to_len) = (innovation.ptr(), innovation.len());
         let status = unsafe {
-            sqrt_kalman_update(self.n, self.m, self.i, filter, len, z.as_ptr(), z.len(), to, to_len)
+            estimators_sqrt_kalman_update(self.n, self.m, self.i, filter, len, z.as_ptr(), z.len(), to, to_len)
         };
         match status {
             0 => innovation.answer(status, answer)?,
@@ -105,7 +105,7 @@ impl Filter {
         let mut p = Lent::new(self.n * self.n);
         let (from, len) = (self.lent.cells().as_ptr(), self.lent.len());
         let (to, to_len) = (p.ptr(), p.len());
-        let status = unsafe { sqrt_kalman_covariance(self.n, self.m, self.i, from, len, to, to_len) };
+        let status = unsafe { estimators_sqrt_kalman_covariance(self.n, self.m, self.i, from, len, to, to_len) };
         if status == 0 {
             p.answer(status, answer)?;
         }
@@ -117,7 +117,7 @@ impl Filter {
         let before = self.lent.cells().to_vec();
         let (filter, len) = (self.lent.ptr(), self.lent.len());
         let status = unsafe {
-            sqrt_kalman_reset(
+            estimators_sqrt_kalman_reset(
                 self.n,
                 self.m,
                 self.i,

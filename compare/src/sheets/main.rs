@@ -1,4 +1,4 @@
-//! sheets SEED COUNT: so many hard sheets, edge cases first, through the port's sheet_report and through the Rust,
+//! sheets SEED COUNT: so many hard sheets, edge cases first, through the port's estimators_sheet_report and through the Rust,
 //! answers compared byte by byte. Prints the first differences in full, how often each outcome occurred, and last
 //! `N sheets, K differ`; the exit is 1 unless K is 0. From as many sheets on as there are edge cases, an outcome that
 //! did not occur is a gap: the last line counts it, and the exit is 1.

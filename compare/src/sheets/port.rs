@@ -1,7 +1,7 @@
-//! The port's answer to a sheet, by the C function sheet_report, on an output that is marked within and beyond its
+//! The port's answer to a sheet, by the C function estimators_sheet_report, on an output that is marked within and beyond its
 //! ends.
 
-use crate::entries::sheet_report;
+use crate::entries::estimators_sheet_report;
 
 /// No printed byte, and no byte of a refusal.
 const MARKER: u8 = 0xC5;
@@ -29,7 +29,7 @@ impl Lent {
         self.bytes.resize(length + 2 * BEYOND, MARKER);
         let out = self.bytes[BEYOND..].as_mut_ptr();
         let mut written = UNSET;
-        let status = unsafe { sheet_report(sheet.as_ptr(), sheet.len(), out, length, &mut written) };
+        let status = unsafe { estimators_sheet_report(sheet.as_ptr(), sheet.len(), out, length, &mut written) };
         (status, written)
     }
 

@@ -7,7 +7,13 @@ ghost use Rattle.c_copies.specs.Filter.{predictIn, updateIn, newIn, resetIn, st
 
 // One step on, with the input u of i numbers.
 #[no_mangle]
-pub extern "C" fn kalman_predict(n: usize, m: usize, i: usize, filter: &mut [f64], u: &[f64]) -> u8
+pub extern "C" fn estimators_kalman_predict(
+    n: usize,
+    m: usize,
+    i: usize,
+    filter: &mut [f64],
+    u: &[f64],
+) -> u8
     ensures { λ t. ⌜ (t, now (filter .exit)) ≡ predictIn n m i (now (filter .entry)) (now (u .entry)) ⌝ }
 {
     c_filters::kalman_predict(n, m, i, filter, u)
@@ -16,7 +22,7 @@ pub extern "C" fn kalman_predict(n: usize, m: usize, i: usize, filter: &mut [f64
 // Corrected by the measurement z of m numbers; the innovation is z less H times the state before. Refused with 3: inversion
 // rejects the innovation covariance.
 #[no_mangle]
-pub extern "C" fn kalman_update(
+pub extern "C" fn estimators_kalman_update(
     n: usize,
     m: usize,
     i: usize,
@@ -32,7 +38,7 @@ pub extern "C" fn kalman_update(
 
 // The filter of the parts a, b, h, q, r, x0 and p0, each by rows.
 #[no_mangle]
-pub extern "C" fn kalman_new(
+pub extern "C" fn estimators_kalman_new(
     n: usize,
     m: usize,
     i: usize,
@@ -54,7 +60,7 @@ pub extern "C" fn kalman_new(
 
 // Another state x0 and covariance p0; the model stays.
 #[no_mangle]
-pub extern "C" fn kalman_reset(
+pub extern "C" fn estimators_kalman_reset(
     n: usize,
     m: usize,
     i: usize,
@@ -69,7 +75,13 @@ pub extern "C" fn kalman_reset(
 
 // The state, n numbers.
 #[no_mangle]
-pub extern "C" fn kalman_state(n: usize, m: usize, i: usize, filter: &[f64], out: &mut [f64]) -> u8
+pub extern "C" fn estimators_kalman_state(
+    n: usize,
+    m: usize,
+    i: usize,
+    filter: &[f64],
+    out: &mut [f64],
+) -> u8
     ensures { λ t. ⌜ (t, now (out .exit)) ≡ given (now (out .entry)) (stateIn n m i (now (filter .entry)) (length (now (out .entry)))) ⌝ }
 {
     c_copies::kalman_state(n, m, i, filter, out)
@@ -77,7 +89,7 @@ pub extern "C" fn kalman_state(n: usize, m: usize, i: usize, filter: &[f64], out
 
 // The covariance, n rows of n numbers.
 #[no_mangle]
-pub extern "C" fn kalman_covariance(
+pub extern "C" fn estimators_kalman_covariance(
     n: usize,
     m: usize,
     i: usize,
@@ -91,7 +103,7 @@ pub extern "C" fn kalman_covariance(
 
 // A filter of 19 numbers that tracks position and speed, with the step dt in seconds.
 #[no_mangle]
-pub extern "C" fn kalman_position_velocity(
+pub extern "C" fn estimators_kalman_position_velocity(
     dt: f64,
     process_noise: f64,
     measurement_noise: f64,

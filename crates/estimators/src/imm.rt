@@ -7,7 +7,7 @@ ghost use Rattle.c_imm.specs.Bank.{mixIn, probabilitiesIn, fusedIn, probability
 
 // The bank of the models, one after another, the transition, c and r, each by rows; each probability is 1 / k.
 #[no_mangle]
-pub extern "C" fn imm_new(
+pub extern "C" fn estimators_imm_new(
     n: usize,
     m: usize,
     k: usize,
@@ -27,7 +27,7 @@ pub extern "C" fn imm_new(
 
 // Every model's state and covariance mixed from those of all; mu becomes the predicted probabilities.
 #[no_mangle]
-pub extern "C" fn imm_mix_estimates(n: usize, m: usize, k: usize, bank: &mut [f64]) -> u8
+pub extern "C" fn estimators_imm_mix_estimates(n: usize, m: usize, k: usize, bank: &mut [f64]) -> u8
     ensures { λ t. ⌜ (t, now (bank .exit)) ≡ mixIn n m k (now (bank .entry)) ⌝ }
 {
     c_imm::imm_mix_estimates(n, m, k, bank)
@@ -35,7 +35,12 @@ pub extern "C" fn imm_mix_estimates(n: usize, m: usize, k: usize, bank: &mut [f6
 
 // mu becomes each probability times its likelihood, as a part of their sum; 1 / k each where the sum is below EPSILON.
 #[no_mangle]
-pub extern "C" fn imm_update_probabilities(n: usize, m: usize, k: usize, bank: &mut [f64]) -> u8
+pub extern "C" fn estimators_imm_update_probabilities(
+    n: usize,
+    m: usize,
+    k: usize,
+    bank: &mut [f64],
+) -> u8
     ensures { λ t. ⌜ (t, now (bank .exit)) ≡ probabilitiesIn n m k (now (bank .entry)) ⌝ }
 {
     c_imm::imm_update_probabilities(n, m, k, bank)
@@ -43,7 +48,7 @@ pub extern "C" fn imm_update_probabilities(n: usize, m: usize, k: usize, bank: &
 
 // The states by their probabilities, n numbers.
 #[no_mangle]
-pub extern "C" fn imm_fused_estimate(
+pub extern "C" fn estimators_imm_fused_estimate(
     n: usize,
     m: usize,
     k: usize,
@@ -57,7 +62,7 @@ pub extern "C" fn imm_fused_estimate(
 
 // The probability of a model, from 0. Refused with 1 too: there is no such model.
 #[no_mangle]
-pub extern "C" fn imm_model_probability(
+pub extern "C" fn estimators_imm_model_probability(
     n: usize,
     m: usize,
     k: usize,

@@ -8,7 +8,7 @@ ghost use Rattle.c_information.specs.Information.{predictIn, updateIn, fuseIn, 
 // One step on, with the input u of i numbers. Refused with 3, and nothing changes: inversion rejects omega, or the predicted
 // covariance.
 #[no_mangle]
-pub extern "C" fn information_predict(
+pub extern "C" fn estimators_information_predict(
     n: usize,
     m: usize,
     i: usize,
@@ -23,7 +23,7 @@ pub extern "C" fn information_predict(
 // Updated by the measurement z of m numbers; the innovation is z less H times the state after. Refused with 3: inversion rejects
 // r, and nothing is written; or the new omega, and the filter keeps the addition.
 #[no_mangle]
-pub extern "C" fn information_update(
+pub extern "C" fn estimators_information_update(
     n: usize,
     m: usize,
     i: usize,
@@ -38,7 +38,7 @@ pub extern "C" fn information_update(
 
 // One sensor's addition: h (m by n), its inverted noise r_inv (m by m), and what it measured, z (m).
 #[no_mangle]
-pub extern "C" fn information_fuse_sensor(
+pub extern "C" fn estimators_information_fuse_sensor(
     n: usize,
     m: usize,
     i: usize,
@@ -54,7 +54,7 @@ pub extern "C" fn information_fuse_sensor(
 
 // Another state x0 and covariance p0; the model stays. Refused with 3: inversion rejects p0.
 #[no_mangle]
-pub extern "C" fn information_reset(
+pub extern "C" fn estimators_information_reset(
     n: usize,
     m: usize,
     i: usize,
@@ -69,7 +69,7 @@ pub extern "C" fn information_reset(
 
 // Of the parts a, b, h, q and r, and of omega0 and xi0, each by rows.
 #[no_mangle]
-pub extern "C" fn information_from_information(
+pub extern "C" fn estimators_information_from_information(
     n: usize,
     m: usize,
     i: usize,
@@ -93,7 +93,7 @@ pub extern "C" fn information_from_information(
 // Of the parts a, b, h, q and r, and of an estimate: omega is p0 inverted, and xi is omega times x0. Refused with 3: inversion
 // rejects p0.
 #[no_mangle]
-pub extern "C" fn information_new(
+pub extern "C" fn estimators_information_new(
     n: usize,
     m: usize,
     i: usize,
@@ -116,7 +116,7 @@ pub extern "C" fn information_new(
 
 // The state, n numbers: omega inverted, times xi. Refused with 3: inversion rejects omega.
 #[no_mangle]
-pub extern "C" fn information_state(
+pub extern "C" fn estimators_information_state(
     n: usize,
     m: usize,
     i: usize,
@@ -130,7 +130,7 @@ pub extern "C" fn information_state(
 
 // The covariance, n rows of n numbers: omega inverted. Refused with 3: inversion rejects omega.
 #[no_mangle]
-pub extern "C" fn information_covariance(
+pub extern "C" fn estimators_information_covariance(
     n: usize,
     m: usize,
     i: usize,
@@ -144,7 +144,7 @@ pub extern "C" fn information_covariance(
 
 // Copies of omega, n rows of n numbers, and of xi, n numbers.
 #[no_mangle]
-pub extern "C" fn information_matrix(
+pub extern "C" fn estimators_information_matrix(
     n: usize,
     m: usize,
     i: usize,
@@ -157,7 +157,7 @@ pub extern "C" fn information_matrix(
 }
 
 #[no_mangle]
-pub extern "C" fn information_vector(
+pub extern "C" fn estimators_information_vector(
     n: usize,
     m: usize,
     i: usize,

@@ -7,28 +7,28 @@ ghost use Rattle.c_matrix.specs.Calls.{zerosIn, filledIn, identityIn, transpose
 ghost use Rattle.c_matrix.specs.Calls.{getIn, setIn, addIn, subIn, eqIn, mulIn, matvecIn, outerIn, vecAddIn, vecSubIn, vecScaleIn, dotIn, vecNormIn};
 
 #[no_mangle]
-pub extern "C" fn matrix_zeros(r: usize, c: usize, out: &mut [f64]) -> u8
+pub extern "C" fn estimators_matrix_zeros(r: usize, c: usize, out: &mut [f64]) -> u8
     ensures { λ t. ⌜ (t, now (out .exit)) ≡ given (now (out .entry)) (zerosIn r c (length (now (out .entry)))) ⌝ }
 {
     c_matrix::cells::matrix_zeros(r, c, out)
 }
 
 #[no_mangle]
-pub extern "C" fn matrix_default(r: usize, c: usize, out: &mut [f64]) -> u8
+pub extern "C" fn estimators_matrix_default(r: usize, c: usize, out: &mut [f64]) -> u8
     ensures { λ t. ⌜ (t, now (out .exit)) ≡ given (now (out .entry)) (zerosIn r c (length (now (out .entry)))) ⌝ }
 {
     c_matrix::cells::matrix_default(r, c, out)
 }
 
 #[no_mangle]
-pub extern "C" fn matrix_filled(r: usize, c: usize, val: f64, out: &mut [f64]) -> u8
+pub extern "C" fn estimators_matrix_filled(r: usize, c: usize, val: f64, out: &mut [f64]) -> u8
     ensures { λ t. ⌜ (t, now (out .exit)) ≡ given (now (out .entry)) (filledIn r c val (length (now (out .entry)))) ⌝ }
 {
     c_matrix::cells::matrix_filled(r, c, val, out)
 }
 
 #[no_mangle]
-pub extern "C" fn matrix_identity(n: usize, out: &mut [f64]) -> u8
+pub extern "C" fn estimators_matrix_identity(n: usize, out: &mut [f64]) -> u8
     ensures { λ t. ⌜ (t, now (out .exit)) ≡ given (now (out .entry)) (identityIn n (length (now (out .entry)))) ⌝ }
 {
     c_matrix::cells::matrix_identity(n, out)
@@ -36,35 +36,41 @@ pub extern "C" fn matrix_identity(n: usize, out: &mut [f64]) -> u8
 
 // From r rows and c columns to c rows and r columns.
 #[no_mangle]
-pub extern "C" fn matrix_transpose(r: usize, c: usize, a: &[f64], out: &mut [f64]) -> u8
+pub extern "C" fn estimators_matrix_transpose(r: usize, c: usize, a: &[f64], out: &mut [f64]) -> u8
     ensures { λ t. ⌜ (t, now (out .exit)) ≡ given (now (out .entry)) (transposeIn r c (now (a .entry)) (length (now (out .entry)))) ⌝ }
 {
     c_matrix::matrices::matrix_transpose(r, c, a, out)
 }
 
 #[no_mangle]
-pub extern "C" fn matrix_scale(r: usize, c: usize, a: &[f64], s: f64, out: &mut [f64]) -> u8
+pub extern "C" fn estimators_matrix_scale(
+    r: usize,
+    c: usize,
+    a: &[f64],
+    s: f64,
+    out: &mut [f64],
+) -> u8
     ensures { λ t. ⌜ (t, now (out .exit)) ≡ given (now (out .entry)) (scaleIn r c (now (a .entry)) s (length (now (out .entry)))) ⌝ }
 {
     c_matrix::matrices::matrix_scale(r, c, a, s, out)
 }
 
 #[no_mangle]
-pub extern "C" fn matrix_neg(r: usize, c: usize, a: &[f64], out: &mut [f64]) -> u8
+pub extern "C" fn estimators_matrix_neg(r: usize, c: usize, a: &[f64], out: &mut [f64]) -> u8
     ensures { λ t. ⌜ (t, now (out .exit)) ≡ given (now (out .entry)) (negIn r c (now (a .entry)) (length (now (out .entry)))) ⌝ }
 {
     c_matrix::matrices::matrix_neg(r, c, a, out)
 }
 
 #[no_mangle]
-pub extern "C" fn matrix_frob_norm(r: usize, c: usize, a: &[f64], out: &mut f64) -> u8
+pub extern "C" fn estimators_matrix_frob_norm(r: usize, c: usize, a: &[f64], out: &mut f64) -> u8
     ensures { λ t. ⌜ (t, now (out .exit)) ≡ given (now (out .entry)) (frobNormIn r c (now (a .entry))) ⌝ }
 {
     c_matrix::matrices::matrix_frob_norm(r, c, a, out)
 }
 
 #[no_mangle]
-pub extern "C" fn matrix_trace(n: usize, a: &[f64], out: &mut f64) -> u8
+pub extern "C" fn estimators_matrix_trace(n: usize, a: &[f64], out: &mut f64) -> u8
     ensures { λ t. ⌜ (t, now (out .exit)) ≡ given (now (out .entry)) (traceIn n (now (a .entry))) ⌝ }
 {
     c_matrix::matrices::matrix_trace(n, a, out)
@@ -72,7 +78,7 @@ pub extern "C" fn matrix_trace(n: usize, a: &[f64], out: &mut f64) -> u8
 
 // The inverse. Refused with 3: inversion rejects the matrix.
 #[no_mangle]
-pub extern "C" fn matrix_inv(n: usize, a: &[f64], out: &mut [f64]) -> u8
+pub extern "C" fn estimators_matrix_inv(n: usize, a: &[f64], out: &mut [f64]) -> u8
     ensures { λ t. ⌜ (t, now (out .exit)) ≡ given (now (out .entry)) (invIn n (now (a .entry)) (length (now (out .entry)))) ⌝ }
 {
     c_matrix::matrices::matrix_inv(n, a, out)
@@ -80,7 +86,7 @@ pub extern "C" fn matrix_inv(n: usize, a: &[f64], out: &mut [f64]) -> u8
 
 // The lower factor. Refused with 4: a reduced diagonal at or below zero.
 #[no_mangle]
-pub extern "C" fn matrix_cholesky(n: usize, a: &[f64], out: &mut [f64]) -> u8
+pub extern "C" fn estimators_matrix_cholesky(n: usize, a: &[f64], out: &mut [f64]) -> u8
     ensures { λ t. ⌜ (t, now (out .exit)) ≡ given (now (out .entry)) (choleskyIn n (now (a .entry)) (length (now (out .entry)))) ⌝ }
 {
     c_matrix::matrices::matrix_cholesky(n, a, out)
@@ -88,7 +94,14 @@ pub extern "C" fn matrix_cholesky(n: usize, a: &[f64], out: &mut [f64]) -> u8
 
 // Row i, column j, from 0. Refused with 1 outside, as matrix_set.
 #[no_mangle]
-pub extern "C" fn matrix_get(r: usize, c: usize, i: usize, j: usize, a: &[f64], out: &mut f64) -> u8
+pub extern "C" fn estimators_matrix_get(
+    r: usize,
+    c: usize,
+    i: usize,
+    j: usize,
+    a: &[f64],
+    out: &mut f64,
+) -> u8
     ensures { λ t. ⌜ (t, now (out .exit)) ≡ given (now (out .entry)) (getIn r c i j (now (a .entry))) ⌝ }
 {
     c_matrix::cells::matrix_get(r, c, i, j, a, out)
@@ -96,7 +109,7 @@ pub extern "C" fn matrix_get(r: usize, c: usize, i: usize, j: usize, a: &[f64], 
 
 // The matrix with val in row i, column j.
 #[no_mangle]
-pub extern "C" fn matrix_set(
+pub extern "C" fn estimators_matrix_set(
     r: usize,
     c: usize,
     i: usize,
@@ -111,14 +124,26 @@ pub extern "C" fn matrix_set(
 }
 
 #[no_mangle]
-pub extern "C" fn matrix_add_mat(r: usize, c: usize, a: &[f64], b: &[f64], out: &mut [f64]) -> u8
+pub extern "C" fn estimators_matrix_add_mat(
+    r: usize,
+    c: usize,
+    a: &[f64],
+    b: &[f64],
+    out: &mut [f64],
+) -> u8
     ensures { λ t. ⌜ (t, now (out .exit)) ≡ given (now (out .entry)) (addIn r c (now (a .entry)) (now (b .entry)) (length (now (out .entry)))) ⌝ }
 {
     c_matrix::matrices::matrix_add_mat(r, c, a, b, out)
 }
 
 #[no_mangle]
-pub extern "C" fn matrix_sub_mat(r: usize, c: usize, a: &[f64], b: &[f64], out: &mut [f64]) -> u8
+pub extern "C" fn estimators_matrix_sub_mat(
+    r: usize,
+    c: usize,
+    a: &[f64],
+    b: &[f64],
+    out: &mut [f64],
+) -> u8
     ensures { λ t. ⌜ (t, now (out .exit)) ≡ given (now (out .entry)) (subIn r c (now (a .entry)) (now (b .entry)) (length (now (out .entry)))) ⌝ }
 {
     c_matrix::matrices::matrix_sub_mat(r, c, a, b, out)
@@ -126,7 +151,13 @@ pub extern "C" fn matrix_sub_mat(r: usize, c: usize, a: &[f64], b: &[f64], out: 
 
 // Equal cell by cell: -0 equals +0, and a NaN equals nothing.
 #[no_mangle]
-pub extern "C" fn matrix_eq(r: usize, c: usize, a: &[f64], b: &[f64], out: &mut bool) -> u8
+pub extern "C" fn estimators_matrix_eq(
+    r: usize,
+    c: usize,
+    a: &[f64],
+    b: &[f64],
+    out: &mut bool,
+) -> u8
     ensures { λ t. ⌜ (t, now (out .exit)) ≡ given (now (out .entry)) (eqIn r c (now (a .entry)) (now (b .entry))) ⌝ }
 {
     c_matrix::matrices::matrix_eq(r, c, a, b, out)
@@ -134,7 +165,7 @@ pub extern "C" fn matrix_eq(r: usize, c: usize, a: &[f64], b: &[f64], out: &mut 
 
 // r rows and k columns times k rows and c columns.
 #[no_mangle]
-pub extern "C" fn matrix_matmul(
+pub extern "C" fn estimators_matrix_matmul(
     r: usize,
     k: usize,
     c: usize,
@@ -149,7 +180,13 @@ pub extern "C" fn matrix_matmul(
 
 // r rows and c columns times a vector of c numbers.
 #[no_mangle]
-pub extern "C" fn matrix_matvec(r: usize, c: usize, a: &[f64], v: &[f64], out: &mut [f64]) -> u8
+pub extern "C" fn estimators_matrix_matvec(
+    r: usize,
+    c: usize,
+    a: &[f64],
+    v: &[f64],
+    out: &mut [f64],
+) -> u8
     ensures { λ t. ⌜ (t, now (out .exit)) ≡ given (now (out .entry)) (matvecIn r c (now (a .entry)) (now (v .entry)) (length (now (out .entry)))) ⌝ }
 {
     c_vector::matrix_matvec(r, c, a, v, out)
@@ -157,42 +194,48 @@ pub extern "C" fn matrix_matvec(r: usize, c: usize, a: &[f64], v: &[f64], out: &
 
 // A vector of r numbers times a transposed one of c.
 #[no_mangle]
-pub extern "C" fn matrix_outer(r: usize, c: usize, v: &[f64], w: &[f64], out: &mut [f64]) -> u8
+pub extern "C" fn estimators_matrix_outer(
+    r: usize,
+    c: usize,
+    v: &[f64],
+    w: &[f64],
+    out: &mut [f64],
+) -> u8
     ensures { λ t. ⌜ (t, now (out .exit)) ≡ given (now (out .entry)) (outerIn r c (now (v .entry)) (now (w .entry)) (length (now (out .entry)))) ⌝ }
 {
     c_vector::matrix_outer(r, c, v, w, out)
 }
 
 #[no_mangle]
-pub extern "C" fn matrix_vec_add(n: usize, v: &[f64], w: &[f64], out: &mut [f64]) -> u8
+pub extern "C" fn estimators_matrix_vec_add(n: usize, v: &[f64], w: &[f64], out: &mut [f64]) -> u8
     ensures { λ t. ⌜ (t, now (out .exit)) ≡ given (now (out .entry)) (vecAddIn n (now (v .entry)) (now (w .entry)) (length (now (out .entry)))) ⌝ }
 {
     c_vector::matrix_vec_add(n, v, w, out)
 }
 
 #[no_mangle]
-pub extern "C" fn matrix_vec_sub(n: usize, v: &[f64], w: &[f64], out: &mut [f64]) -> u8
+pub extern "C" fn estimators_matrix_vec_sub(n: usize, v: &[f64], w: &[f64], out: &mut [f64]) -> u8
     ensures { λ t. ⌜ (t, now (out .exit)) ≡ given (now (out .entry)) (vecSubIn n (now (v .entry)) (now (w .entry)) (length (now (out .entry)))) ⌝ }
 {
     c_vector::matrix_vec_sub(n, v, w, out)
 }
 
 #[no_mangle]
-pub extern "C" fn matrix_vec_scale(n: usize, v: &[f64], s: f64, out: &mut [f64]) -> u8
+pub extern "C" fn estimators_matrix_vec_scale(n: usize, v: &[f64], s: f64, out: &mut [f64]) -> u8
     ensures { λ t. ⌜ (t, now (out .exit)) ≡ given (now (out .entry)) (vecScaleIn n (now (v .entry)) s (length (now (out .entry)))) ⌝ }
 {
     c_vector::matrix_vec_scale(n, v, s, out)
 }
 
 #[no_mangle]
-pub extern "C" fn matrix_vec_dot(n: usize, v: &[f64], w: &[f64], out: &mut f64) -> u8
+pub extern "C" fn estimators_matrix_vec_dot(n: usize, v: &[f64], w: &[f64], out: &mut f64) -> u8
     ensures { λ t. ⌜ (t, now (out .exit)) ≡ given (now (out .entry)) (dotIn n (now (v .entry)) (now (w .entry))) ⌝ }
 {
     c_vector::matrix_vec_dot(n, v, w, out)
 }
 
 #[no_mangle]
-pub extern "C" fn matrix_vec_norm(n: usize, v: &[f64], out: &mut f64) -> u8
+pub extern "C" fn estimators_matrix_vec_norm(n: usize, v: &[f64], out: &mut f64) -> u8
     ensures { λ t. ⌜ (t, now (out .exit)) ≡ given (now (out .entry)) (vecNormIn n (now (v .entry))) ⌝ }
 {
     c_vector::matrix_vec_norm(n, v, out)

@@ -6,7 +6,7 @@ ghost use Rattle.c_smoothers.specs.Smoother.{storeIn, slotIn, smoothIn};
 
 // One slot more, after those stored, and the count one more. Refused with 5: the count is the room.
 #[no_mangle]
-pub extern "C" fn rts_smoother_store_forward(
+pub extern "C" fn estimators_rts_smoother_store_forward(
     n: usize,
     room: usize,
     count: &mut usize,
@@ -23,7 +23,7 @@ pub extern "C" fn rts_smoother_store_forward(
 
 // A copy of slot k. Refused with 6: k is not below the count.
 #[no_mangle]
-pub extern "C" fn rts_smoother_get_state(
+pub extern "C" fn estimators_rts_smoother_get_state(
     n: usize,
     room: usize,
     count: usize,
@@ -39,7 +39,7 @@ pub extern "C" fn rts_smoother_get_state(
 // The smoothed pairs of the stored slots into output, and +0 past them. Refused with 2: no slot; with 3: inversion rejects the
 // predicted covariance of a slot before the last.
 #[no_mangle]
-pub extern "C" fn rts_smoother_smooth(
+pub extern "C" fn estimators_rts_smoother_smooth(
     n: usize,
     room: usize,
     count: usize,

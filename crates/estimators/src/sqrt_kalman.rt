@@ -8,7 +8,7 @@ ghost use Rattle.c_sqrt_kalman.specs.Root.{predictIn, updateIn, newIn, fromChol
 // One step on, with the input u of i numbers. Refused with 4: the new covariance has no factor; the state is then the new one, and
 // the factor the old.
 #[no_mangle]
-pub extern "C" fn sqrt_kalman_predict(
+pub extern "C" fn estimators_sqrt_kalman_predict(
     n: usize,
     m: usize,
     i: usize,
@@ -24,7 +24,7 @@ pub extern "C" fn sqrt_kalman_predict(
 // variance; the components before it are taken in. With 4: its downdate; the state is then updated by it, and the columns
 // before the failing one are turned.
 #[no_mangle]
-pub extern "C" fn sqrt_kalman_update(
+pub extern "C" fn estimators_sqrt_kalman_update(
     n: usize,
     m: usize,
     i: usize,
@@ -39,7 +39,7 @@ pub extern "C" fn sqrt_kalman_update(
 
 // Another state x0, and the factor of the covariance p0; the model stays. Refused with 4: p0 has no factor, and nothing changes.
 #[no_mangle]
-pub extern "C" fn sqrt_kalman_reset(
+pub extern "C" fn estimators_sqrt_kalman_reset(
     n: usize,
     m: usize,
     i: usize,
@@ -54,7 +54,7 @@ pub extern "C" fn sqrt_kalman_reset(
 
 // The filter of the parts a, b, h, q, r_diag, x0 and the factor s0.
 #[no_mangle]
-pub extern "C" fn sqrt_kalman_from_cholesky(
+pub extern "C" fn estimators_sqrt_kalman_from_cholesky(
     n: usize,
     m: usize,
     i: usize,
@@ -77,7 +77,7 @@ pub extern "C" fn sqrt_kalman_from_cholesky(
 
 // The same, with the factor of the covariance p0. Refused with 4: p0 has none.
 #[no_mangle]
-pub extern "C" fn sqrt_kalman_new(
+pub extern "C" fn estimators_sqrt_kalman_new(
     n: usize,
     m: usize,
     i: usize,
@@ -100,7 +100,7 @@ pub extern "C" fn sqrt_kalman_new(
 
 // The state, n numbers.
 #[no_mangle]
-pub extern "C" fn sqrt_kalman_state(
+pub extern "C" fn estimators_sqrt_kalman_state(
     n: usize,
     m: usize,
     i: usize,
@@ -114,7 +114,7 @@ pub extern "C" fn sqrt_kalman_state(
 
 // The factor, n rows of n numbers.
 #[no_mangle]
-pub extern "C" fn sqrt_kalman_cholesky_factor(
+pub extern "C" fn estimators_sqrt_kalman_cholesky_factor(
     n: usize,
     m: usize,
     i: usize,
@@ -128,7 +128,7 @@ pub extern "C" fn sqrt_kalman_cholesky_factor(
 
 // The covariance, n rows of n numbers: the factor times itself transposed.
 #[no_mangle]
-pub extern "C" fn sqrt_kalman_covariance(
+pub extern "C" fn estimators_sqrt_kalman_covariance(
     n: usize,
     m: usize,
     i: usize,

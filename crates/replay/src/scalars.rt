@@ -24,22 +24,22 @@ fn consts(given: &[u8], at: usize) -> usize
     ensures { λ r. ⌜ at ≤ r ⌝ }
 {
     let mut all = [0.0; 6];
-    let status = numbers::scalar_constants(&mut all);
+    let status = numbers::estimators_scalar_constants(&mut all);
     let place = given::told(given, at, status, &all);
     given::numbers(given, place, &[all[5] * 1000000.0])
 }
 
 fn result(op: usize, x: f64, y: f64, z: f64, int: i32) -> f64 {
     match op {
-        names::SQRT => numbers::scalar_sqrt(x),
-        names::ABS => numbers::scalar_abs(x),
-        names::CLAMP_VAL => numbers::scalar_clamp_val(x, y, z),
-        names::SATURATE => numbers::scalar_saturate(x, y),
-        names::FROM_F64 => numbers::scalar_from_f64(x),
-        names::TO_F64 => numbers::scalar_to_f64(x),
-        names::FROM_INT => numbers::scalar_from_int(int),
-        names::PID_ABS => numbers::scalar_pid_abs(x),
-        _ => numbers::scalar_clamp_pid(x, y, z),
+        names::SQRT => numbers::estimators_scalar_sqrt(x),
+        names::ABS => numbers::estimators_scalar_abs(x),
+        names::CLAMP_VAL => numbers::estimators_scalar_clamp_val(x, y, z),
+        names::SATURATE => numbers::estimators_scalar_saturate(x, y),
+        names::FROM_F64 => numbers::estimators_scalar_from_f64(x),
+        names::TO_F64 => numbers::estimators_scalar_to_f64(x),
+        names::FROM_INT => numbers::estimators_scalar_from_int(int),
+        names::PID_ABS => numbers::estimators_scalar_pid_abs(x),
+        _ => numbers::estimators_scalar_clamp_pid(x, y, z),
     }
 }
 

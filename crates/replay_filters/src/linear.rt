@@ -18,7 +18,7 @@ pub fn begin(s: Sizes, w: &[f64], filter: &mut [f64], at: usize) -> usize
     ensures { λ r. ⌜ at ≤ r ⌝ }
 {
     let Parts(b, h, q, r, x, p, end) = parts_of(s);
-    let status = filters::kalman_new(
+    let status = filters::estimators_kalman_new(
         s.n,
         s.m,
         s.i,
@@ -39,14 +39,14 @@ pub fn begin(s: Sizes, w: &[f64], filter: &mut [f64], at: usize) -> usize
 fn state(s: Sizes, filter: &[f64], out: &mut [f64], given: &[u8], at: usize) -> usize
     ensures { λ r. ⌜ at ≤ r ⌝ }
 {
-    let status = filters::kalman_state(s.n, s.m, s.i, filter, out);
+    let status = filters::estimators_kalman_state(s.n, s.m, s.i, filter, out);
     given::left(given, at, status, out)
 }
 
 fn covariance(s: Sizes, filter: &[f64], out: &mut [f64], given: &[u8], at: usize) -> usize
     ensures { λ r. ⌜ at ≤ r ⌝ }
 {
-    let status = filters::kalman_covariance(s.n, s.m, s.i, filter, out);
+    let status = filters::estimators_kalman_covariance(s.n, s.m, s.i, filter, out);
     given::left(given, at, status, out)
 }
 
@@ -69,9 +69,16 @@ fn taken(letter: u64, s: Sizes, filter: &mut [f64], w: &[f64], out: &mut [f64]) 
     let p = cells(s.n, 1);
     match letter {
         N => 0,
-        P => filters::kalman_predict(s.n, s.m, s.i, filter, w),
-        U => filters::kalman_update(s.n, s.m, s.i, filter, w, out),
-        _ => filters::kalman_reset(s.n, s.m, s.i, filter, part(w, 0, p), part(w, p, w.len())),
+        P => filters::estimators_kalman_predict(s.n, s.m, s.i, filter, w),
+        U => filters::estimators_kalman_update(s.n, s.m, s.i, filter, w, out),
+        _ => filters::estimators_kalman_reset(
+            s.n,
+            s.m,
+            s.i,
+            filter,
+            part(w, 0, p),
+            part(w, p, w.len()),
+        ),
     }
 }
 
@@ -106,7 +113,7 @@ pub fn position_velocity(v: &[f64], given: &[u8], at: usize) -> usize
 {
     let mut filter = [0.0; 19];
     let dt = number_at(v, 0);
-    let status = filters::kalman_position_velocity(
+    let status = filters::estimators_kalman_position_velocity(
         dt,
         number_at(v, 1),
         number_at(v, 2),

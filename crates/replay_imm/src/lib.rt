@@ -85,7 +85,7 @@ fn left(s: Sizes, bank: &[f64], given: &[u8], at: usize) -> usize
 
 fn make(s: Sizes, w: &[f64], bank: &mut [f64]) -> u8 {
     let Parts(transition, c, r, mu, end) = parts_of(s);
-    imm::imm_new(
+    imm::estimators_imm_new(
         s.n,
         s.m,
         s.k,
@@ -100,15 +100,15 @@ fn make(s: Sizes, w: &[f64], bank: &mut [f64]) -> u8 {
 fn stepped(op: usize, s: Sizes, w: &[f64], bank: &mut [f64]) -> u8 {
     match op {
         names::IMM_NEW => make(s, w, bank),
-        names::IMM_MIX => imm::imm_mix_estimates(s.n, s.m, s.k, bank),
-        _ => imm::imm_update_probabilities(s.n, s.m, s.k, bank),
+        names::IMM_MIX => imm::estimators_imm_mix_estimates(s.n, s.m, s.k, bank),
+        _ => imm::estimators_imm_update_probabilities(s.n, s.m, s.k, bank),
     }
 }
 
 fn fused(s: Sizes, bank: &[f64], out: &mut [f64], given: &[u8], at: usize) -> usize
     ensures { λ r. ⌜ at ≤ r ⌝ }
 {
-    let status = imm::imm_fused_estimate(s.n, s.m, s.k, bank, out);
+    let status = imm::estimators_imm_fused_estimate(s.n, s.m, s.k, bank, out);
     given::told(given, at, status, out)
 }
 
@@ -116,7 +116,7 @@ fn probability(s: Sizes, bank: &[f64], model: usize, given: &[u8], at: usize) ->
     ensures { λ r. ⌜ at ≤ r ⌝ }
 {
     let mut x = 0.0;
-    let status = imm::imm_model_probability(s.n, s.m, s.k, bank, model, &mut x);
+    let status = imm::estimators_imm_model_probability(s.n, s.m, s.k, bank, model, &mut x);
     let one = [x];
     given::told(given, at, status, &one[..])
 }

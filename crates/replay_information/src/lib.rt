@@ -22,14 +22,14 @@ use protocol::words::whole_at;
 fn matrix(s: Sizes, filter: &[f64], out: &mut [f64], given: &[u8], at: usize) -> usize
     ensures { λ r. ⌜ at ≤ r ⌝ }
 {
-    let status = information::information_matrix(s.n, s.m, s.i, filter, out);
+    let status = information::estimators_information_matrix(s.n, s.m, s.i, filter, out);
     given::left(given, at, status, out)
 }
 
 fn vector(s: Sizes, filter: &[f64], out: &mut [f64], given: &[u8], at: usize) -> usize
     ensures { λ r. ⌜ at ≤ r ⌝ }
 {
-    let status = information::information_vector(s.n, s.m, s.i, filter, out);
+    let status = information::estimators_information_vector(s.n, s.m, s.i, filter, out);
     given::left(given, at, status, out)
 }
 
@@ -49,7 +49,7 @@ fn left(s: Sizes, filter: &[f64], given: &[u8], at: usize) -> usize
 
 fn of_estimate(s: Sizes, w: &[f64], filter: &mut [f64]) -> u8 {
     let Parts(b, h, q, r, x, p, end) = parts_of(s);
-    information::information_new(
+    information::estimators_information_new(
         s.n,
         s.m,
         s.i,
@@ -67,7 +67,7 @@ fn of_estimate(s: Sizes, w: &[f64], filter: &mut [f64]) -> u8 {
 fn of_information(s: Sizes, w: &[f64], filter: &mut [f64]) -> u8 {
     let Parts(b, h, q, r, omega, _, end) = parts_of(s);
     let xi = omega + cells(s.n, s.n);
-    information::information_from_information(
+    information::estimators_information_from_information(
         s.n,
         s.m,
         s.i,
@@ -114,7 +114,7 @@ fn fuse(s: Sizes, filter: &mut [f64], w: &[f64]) -> u8 {
     }
     let noise = 1 + cells(s.m, s.n);
     let z = noise + cells(s.m, s.m);
-    information::information_fuse_sensor(
+    information::estimators_information_fuse_sensor(
         s.n,
         s.m,
         s.i,
@@ -127,18 +127,25 @@ fn fuse(s: Sizes, filter: &mut [f64], w: &[f64]) -> u8 {
 
 fn reset(s: Sizes, filter: &mut [f64], w: &[f64]) -> u8 {
     let p = cells(s.n, 1);
-    information::information_reset(s.n, s.m, s.i, filter, part(w, 0, p), part(w, p, w.len()))
+    information::estimators_information_reset(
+        s.n,
+        s.m,
+        s.i,
+        filter,
+        part(w, 0, p),
+        part(w, p, w.len()),
+    )
 }
 
 // The step's status. An update leaves its innovation in out; the state and the covariance are read into it.
 fn taken(letter: u64, s: Sizes, filter: &mut [f64], w: &[f64], out: &mut [f64]) -> u8 {
     match letter {
         N => 0,
-        P => information::information_predict(s.n, s.m, s.i, filter, w),
-        U => information::information_update(s.n, s.m, s.i, filter, w, out),
+        P => information::estimators_information_predict(s.n, s.m, s.i, filter, w),
+        U => information::estimators_information_update(s.n, s.m, s.i, filter, w, out),
         F => fuse(s, filter, w),
-        S => information::information_state(s.n, s.m, s.i, filter, out),
-        C => information::information_covariance(s.n, s.m, s.i, filter, out),
+        S => information::estimators_information_state(s.n, s.m, s.i, filter, out),
+        C => information::estimators_information_covariance(s.n, s.m, s.i, filter, out),
         _ => reset(s, filter, w),
     }
 }

@@ -70,47 +70,47 @@ fn shape_of(op: usize, r: usize, c: usize, i: usize) -> Shape {
 fn made(k: Call, out: &mut [f64]) -> u8 {
     let op = k.op;
     match op {
-        names::ZEROS => matrices::matrix_zeros(k.r, k.c, out),
-        names::DEFAULT => matrices::matrix_default(k.r, k.c, out),
-        names::FILLED => matrices::matrix_filled(k.r, k.c, k.x, out),
-        _ => matrices::matrix_identity(k.r, out),
+        names::ZEROS => matrices::estimators_matrix_zeros(k.r, k.c, out),
+        names::DEFAULT => matrices::estimators_matrix_default(k.r, k.c, out),
+        names::FILLED => matrices::estimators_matrix_filled(k.r, k.c, k.x, out),
+        _ => matrices::estimators_matrix_identity(k.r, out),
     }
 }
 
 fn of_one(k: Call, a: &[f64], out: &mut [f64]) -> u8 {
     let op = k.op;
     match op {
-        names::TRANSPOSE => matrices::matrix_transpose(k.r, k.c, a, out),
-        names::SCALE => matrices::matrix_scale(k.r, k.c, a, k.x, out),
-        names::NEG => matrices::matrix_neg(k.r, k.c, a, out),
-        names::SET => matrices::matrix_set(k.r, k.c, k.i, k.j, a, k.x, out),
-        names::VEC_SCALE => matrices::matrix_vec_scale(k.r, a, k.x, out),
-        names::INV => matrices::matrix_inv(k.r, a, out),
-        _ => matrices::matrix_cholesky(k.r, a, out),
+        names::TRANSPOSE => matrices::estimators_matrix_transpose(k.r, k.c, a, out),
+        names::SCALE => matrices::estimators_matrix_scale(k.r, k.c, a, k.x, out),
+        names::NEG => matrices::estimators_matrix_neg(k.r, k.c, a, out),
+        names::SET => matrices::estimators_matrix_set(k.r, k.c, k.i, k.j, a, k.x, out),
+        names::VEC_SCALE => matrices::estimators_matrix_vec_scale(k.r, a, k.x, out),
+        names::INV => matrices::estimators_matrix_inv(k.r, a, out),
+        _ => matrices::estimators_matrix_cholesky(k.r, a, out),
     }
 }
 
 fn of_two(k: Call, a: &[f64], b: &[f64], out: &mut [f64]) -> u8 {
     let op = k.op;
     match op {
-        names::ADD_MAT => matrices::matrix_add_mat(k.r, k.c, a, b, out),
-        names::SUB_MAT => matrices::matrix_sub_mat(k.r, k.c, a, b, out),
-        names::MATMUL => matrices::matrix_matmul(k.r, k.c, k.i, a, b, out),
-        names::MATVEC => matrices::matrix_matvec(k.r, k.c, a, b, out),
-        names::OUTER => matrices::matrix_outer(k.r, k.c, a, b, out),
-        names::VEC_ADD => matrices::matrix_vec_add(k.r, a, b, out),
-        _ => matrices::matrix_vec_sub(k.r, a, b, out),
+        names::ADD_MAT => matrices::estimators_matrix_add_mat(k.r, k.c, a, b, out),
+        names::SUB_MAT => matrices::estimators_matrix_sub_mat(k.r, k.c, a, b, out),
+        names::MATMUL => matrices::estimators_matrix_matmul(k.r, k.c, k.i, a, b, out),
+        names::MATVEC => matrices::estimators_matrix_matvec(k.r, k.c, a, b, out),
+        names::OUTER => matrices::estimators_matrix_outer(k.r, k.c, a, b, out),
+        names::VEC_ADD => matrices::estimators_matrix_vec_add(k.r, a, b, out),
+        _ => matrices::estimators_matrix_vec_sub(k.r, a, b, out),
     }
 }
 
 fn number_of(k: Call, a: &[f64], b: &[f64], out: &mut f64) -> u8 {
     let op = k.op;
     match op {
-        names::FROB_NORM => matrices::matrix_frob_norm(k.r, k.c, a, out),
-        names::TRACE => matrices::matrix_trace(k.r, a, out),
-        names::GET => matrices::matrix_get(k.r, k.c, k.i, k.j, a, out),
-        names::VEC_DOT => matrices::matrix_vec_dot(k.r, a, b, out),
-        _ => matrices::matrix_vec_norm(k.r, a, out),
+        names::FROB_NORM => matrices::estimators_matrix_frob_norm(k.r, k.c, a, out),
+        names::TRACE => matrices::estimators_matrix_trace(k.r, a, out),
+        names::GET => matrices::estimators_matrix_get(k.r, k.c, k.i, k.j, a, out),
+        names::VEC_DOT => matrices::estimators_matrix_vec_dot(k.r, a, b, out),
+        _ => matrices::estimators_matrix_vec_norm(k.r, a, out),
     }
 }
 
@@ -128,7 +128,7 @@ fn test(k: Call, a: &[f64], b: &[f64], given: &[u8], at: usize) -> usize
     ensures { λ r. ⌜ at ≤ r ⌝ }
 {
     let mut is_equal = false;
-    let status = matrices::matrix_eq(k.r, k.c, a, b, &mut is_equal);
+    let status = matrices::estimators_matrix_eq(k.r, k.c, a, b, &mut is_equal);
     given::count(
         given,
         given::told(given, at, status, part(a, 0, 0)),

@@ -75,7 +75,7 @@ fn store(
         let end = wrapping_add_usize(middle, pair);
         let filtered = part(v, next, middle);
         let predicted = part(v, middle, end);
-        let status = smoothers::rts_smoother_store_forward(
+        let status = smoothers::estimators_rts_smoother_store_forward(
             s.n,
             s.room,
             &mut count,
@@ -135,7 +135,7 @@ fn answer(
     match op {
         names::RTS_STORE => listed(s.n, count, slots, given, kept.place),
         names::RTS_GET => {
-            let status = smoothers::rts_smoother_get_state(
+            let status = smoothers::estimators_rts_smoother_get_state(
                 s.n,
                 s.room,
                 count,
@@ -146,7 +146,7 @@ fn answer(
             given::told(given, at, status, out)
         }
         _ => {
-            let status = smoothers::rts_smoother_smooth(
+            let status = smoothers::estimators_rts_smoother_smooth(
                 s.n,
                 s.room,
                 count,

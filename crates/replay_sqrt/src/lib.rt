@@ -41,7 +41,7 @@ fn parts_of(s: Sizes) -> Parts
 // The filter of the parts that lie in f; of `sq_new` the last is a covariance.
 fn make_new(s: Sizes, f: &[f64], filter: &mut [f64]) -> u8 {
     let Parts(b, h, q, r, x, p, end) = parts_of(s);
-    sqrt_kalman::sqrt_kalman_new(
+    sqrt_kalman::estimators_sqrt_kalman_new(
         s.n,
         s.m,
         s.i,
@@ -58,7 +58,7 @@ fn make_new(s: Sizes, f: &[f64], filter: &mut [f64]) -> u8 {
 
 fn make_rooted(s: Sizes, f: &[f64], filter: &mut [f64]) -> u8 {
     let Parts(b, h, q, r, x, p, end) = parts_of(s);
-    sqrt_kalman::sqrt_kalman_from_cholesky(
+    sqrt_kalman::estimators_sqrt_kalman_from_cholesky(
         s.n,
         s.m,
         s.i,
@@ -86,14 +86,14 @@ fn make(op: usize, s: Sizes, f: &[f64], filter: &mut [f64]) -> u8 {
 fn state(s: Sizes, filter: &[f64], out: &mut [f64], given: &[u8], at: usize) -> usize
     ensures { λ r. ⌜ at ≤ r ⌝ }
 {
-    let status = sqrt_kalman::sqrt_kalman_state(s.n, s.m, s.i, filter, out);
+    let status = sqrt_kalman::estimators_sqrt_kalman_state(s.n, s.m, s.i, filter, out);
     given::left(given, at, status, out)
 }
 
 fn factor(s: Sizes, filter: &[f64], out: &mut [f64], given: &[u8], at: usize) -> usize
     ensures { λ r. ⌜ at ≤ r ⌝ }
 {
-    let status = sqrt_kalman::sqrt_kalman_cholesky_factor(s.n, s.m, s.i, filter, out);
+    let status = sqrt_kalman::estimators_sqrt_kalman_cholesky_factor(s.n, s.m, s.i, filter, out);
     given::left(given, at, status, out)
 }
 
@@ -116,10 +116,10 @@ fn taken(letter: u64, s: Sizes, filter: &mut [f64], w: &[f64], out: &mut [f64]) 
     let p = cells(s.n, 1);
     match letter {
         N => 0,
-        C => sqrt_kalman::sqrt_kalman_covariance(s.n, s.m, s.i, filter, out),
-        P => sqrt_kalman::sqrt_kalman_predict(s.n, s.m, s.i, filter, w),
-        U => sqrt_kalman::sqrt_kalman_update(s.n, s.m, s.i, filter, w, out),
-        _ => sqrt_kalman::sqrt_kalman_reset(
+        C => sqrt_kalman::estimators_sqrt_kalman_covariance(s.n, s.m, s.i, filter, out),
+        P => sqrt_kalman::estimators_sqrt_kalman_predict(s.n, s.m, s.i, filter, w),
+        U => sqrt_kalman::estimators_sqrt_kalman_update(s.n, s.m, s.i, filter, w, out),
+        _ => sqrt_kalman::estimators_sqrt_kalman_reset(
             s.n,
             s.m,
             s.i,
