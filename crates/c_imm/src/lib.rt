@@ -24,6 +24,8 @@ use sizes::both;
 use sizes::number;
 use sizes::size_of;
 
+mod spread;
+
 // Two models of one road: their estimates, and the transition.
 struct RoadBank {
     first: Pair,
@@ -253,7 +255,7 @@ fn mix_row<'a>(
     let p = rows_at(bank, q, step, k);
     let models = number(k);
     for j in 0..models {
-        let row = imm_steps::mixed_row(&p, x, m, w, j, r, k);
+        let row = spread::mixed_row(&p, x, m, w, j, r, k);
         put_row(bank, q + j * step, row, n);
     }
 }

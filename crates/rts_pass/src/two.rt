@@ -55,7 +55,7 @@ fn put_two(out: &mut [f64], k: usize, e: Pair)
 
 // The smoothed pairs of the stored slots into out, pair k from number 6 k on; the pair of the slot after stays in numbers. Refused
 // with 3: inversion rejects the predicted covariance of a slot before the last.
-pub fn smooth_slots_two<'a>(
+pub(crate) fn smooth_slots_two<'a>(
     slots: &'a [f64],
     stored: usize,
     f: &'a [[f64; 4]; 4],

@@ -1,14 +1,14 @@
--- `mixed_row` meets its contract: the terms of one model after another, in all four columns.
+-- `spread::mixed_row` meets its contract: the terms of one model after another, in all four columns.
 use mathlib.Core.List.{List}
 use Prim.Native.Nat.{ℕ}
 use lib.Ieee.{Float}
 use Rattle.algebra.specs.Matrix.{cell}
 use Rattle.sizes.proofs.Sizes.{exactly, is-one, is-four}
 use Rattle.imm_steps.specs.Bank.{spreadTerm}
 use Rattle.imm_steps.proofs.Ways.{columns-one, columns-more, columns-at}
 use borrow.Author.Needs.{needs}
-use Rattle.imm_steps.proofs.mixed_row.Statement.{statement}
-use Rattle.imm_steps.proofs.mixed_row.Tie as tie
+use Rattle.c_imm.proofs.spread.mixed_row.Statement.{statement}
+use Rattle.c_imm.proofs.spread.mixed_row.Tie as tie
 
 -- term i of column c
 abbrev term : (x p m w : List (List Float)) (j r : ℕ) → ℕ → ℕ → Float
