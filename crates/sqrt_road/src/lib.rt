@@ -112,8 +112,9 @@ fn downdate(l: Two, v: f64, w: f64) -> Turned
         ScalarResult::Value(d) => {
             let c = d / l.a;
             let s = v / l.a;
-            let below = (l.c - s * w) / c;
-            let turned = c * w - s * l.c;
+            let cell = l.c;
+            let below = (cell - s * w) / c;
+            let turned = c * w - s * cell;
             match sqrt_steps::turned_diagonal(l.d * l.d - turned * turned) {
                 ScalarResult::Value(e) => Turned {
                     answer: Status::Done,

@@ -11,7 +11,7 @@ returns : tie.Need-returns
 returns c =
     let e = c .before in
     let second = e .before .before in
-    let d = second .before .before .before .before .before .before .before in
+    let d = second .before .before .before .before .before in
     let first = d .before .before in
     let a = first .before .before .args in
     let l = a .l in
@@ -22,7 +22,7 @@ returns-2 : tie.Need-returns-2
 returns-2 c =
     let e = c .before in
     let second = e .before .before in
-    let d = second .before .before .before .before .before .before .before in
+    let d = second .before .before .before .before .before in
     let first = d .before .before in
     let a = first .before .before .args in
     let l = a .l in
