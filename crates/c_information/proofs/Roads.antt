@@ -15,8 +15,8 @@ use Rattle.matrix.specs.declared.ScalarResult.{ScalarResult}
 use Rattle.matrix.specs.declared.ScalarResult.the-variants as Scalar
 use Rattle.matrix.specs.Result.{asOne}
 use Rattle.matrix.proofs.Results.{answered-value, refused-number}
-use Rattle.inverse.specs.Two.{invNumber}
-use Rattle.inverse.proofs.Two.{number-is}
+use Rattle.small_inverse.specs.Two.{invNumber}
+use Rattle.small_inverse.proofs.Two.{number-is}
 use Rattle.filtering.specs.Filter.{Sensor, Estimate, innovation}
 use Rattle.filtering.specs.Information.{Information, informed, state, predict, update}
 use Rattle.filtering.proofs.Shapes.{length-innovation}

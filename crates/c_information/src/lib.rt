@@ -136,7 +136,7 @@ pub fn information_update(
         innovation.len() == 1,
     ) {
         let f = road_at(filter);
-        let noise = inverse::inverse_number(f.r);
+        let noise = small_inverse::inverse_number(f.r);
         match noise {
             ScalarResult::Value(w) => {
                 let v = information_road::update_by(f.h0, f.h1, w, z[0], f.pair);

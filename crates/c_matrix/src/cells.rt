@@ -3,12 +3,12 @@
 ghost use mathlib.Core.Path.{_≡_};
 ghost use lib.ListN.{length};
 ghost use Rattle.answer.specs.Told.{given};
-ghost use Rattle.c_matrix.specs.Calls.{zerosIn, filledIn, identityIn, getIn, setIn};
-use crate::are_two_matrices;
-use crate::give_matrix;
-use crate::give_scalar;
-use crate::is_matrix;
-use crate::rows_in;
+ghost use Rattle.c_slices.specs.Calls.{zerosIn, filledIn, identityIn, getIn, setIn};
+use c_slices::are_two_matrices;
+use c_slices::give_matrix;
+use c_slices::give_scalar;
+use c_slices::is_matrix;
+use c_slices::rows_in;
 use elementwise::Matrix;
 
 // ---- constructors

@@ -3,22 +3,24 @@
 ghost use mathlib.Core.Path.{_≡_};
 ghost use Prim.Native.Nat.{_*_};
 ghost use lib.ListN.{length};
+ghost use Rattle.answer.specs.Answer.{mapped};
 ghost use Rattle.answer.specs.Told.{given};
-ghost use Rattle.c_matrix.specs.Calls.{transposeIn, scaleIn, negIn, frobNormIn, traceIn, invIn, choleskyIn};
+ghost use Rattle.c_slices.specs.Calls.{transposeIn, scaleIn, negIn, frobNormIn, traceIn, invIn, choleskyIn};
 ghost use Rattle.sizes.specs.Size.{count};
-ghost use Rattle.c_matrix.specs.Calls.{addIn, subIn, eqIn, productIn, mulIn};
-use crate::are_three_matrices;
-use crate::are_two_matrices;
-use crate::give_matrix;
-use crate::give_number;
-use crate::give_scalar;
-use crate::give_test;
-use crate::is_matrix;
-use crate::rows_in;
+ghost use Rattle.c_slices.specs.Told.{single, scalarTold};
+ghost use Rattle.c_slices.specs.Calls.{addIn, subIn, eqIn, productIn, mulIn};
+use c_slices::are_three_matrices;
+use c_slices::are_two_matrices;
+use c_slices::give_matrix;
+use c_slices::give_scalar;
+use c_slices::give_test;
+use c_slices::is_matrix;
+use c_slices::rows_in;
 use layout::matrix_at;
 use layout::put_matrix;
 use layout::put_vector;
 use layout::vector_at;
+use matrix::ScalarResult;
 use sizes::Size;
 use sizes::number;
 use sizes::size_of;
@@ -80,13 +82,27 @@ pub fn matrix_trace(n: usize, a: &[f64], out: &mut f64) -> u8
     }
 }
 
+// A matrix of one number into a lent place; a refusal writes nothing.
+fn give_number(out: &mut [f64], x: ScalarResult) -> u8
+    requires { ⌜ length (now out) ≡ 1 ⌝ }
+    ensures { λ t. ⌜ (t, now (out .exit)) ≡ given (now (out .entry)) (mapped single (scalarTold x)) ⌝ }
+{
+    match x {
+        ScalarResult::Value(v) => {
+            out[0] = v;
+            0
+        }
+        ScalarResult::Refused(number) => number,
+    }
+}
+
 // The inverse. Refused with 3: inversion rejects the matrix.
 pub fn matrix_inv(n: usize, a: &[f64], out: &mut [f64]) -> u8
     ensures { λ t. ⌜ (t, now (out .exit)) ≡ given (now (out .entry)) (invIn n (now (a .entry)) (length (now (out .entry)))) ⌝ }
 {
     if are_two_matrices(n, n, a.len(), n, n, out.len()) {
         if n == 1 {
-            return give_number(out, inverse::inverse_number(a[0]));
+            return give_number(out, small_inverse::inverse_number(a[0]));
         }
         let s = size_of(n);
         let x = matrix_at(a, 0, s, s);

@@ -2,7 +2,7 @@
 ghost use mathlib.Core.Path.{_≡_};
 ghost use lib.ListN.{length};
 ghost use Rattle.answer.specs.Told.{given};
-ghost use Rattle.c_matrix.specs.Calls.{constantsIn};
+ghost use Rattle.c_slices.specs.Calls.{constantsIn};
 use scalar::ControlScalar;
 
 // ZERO, ONE, TWO, HALF, PI and EPSILON. Refused with 1: a slice of another length than 6.

@@ -3,8 +3,8 @@
 ghost use mathlib.Core.Path.{_≡_};
 ghost use lib.ListN.{length};
 ghost use Rattle.answer.specs.Told.{given};
-ghost use Rattle.c_matrix.specs.Calls.{zerosIn, filledIn, identityIn, transposeIn, scaleIn, negIn, frobNormIn, traceIn, invIn, choleskyIn};
-ghost use Rattle.c_matrix.specs.Calls.{getIn, setIn, addIn, subIn, eqIn, mulIn, matvecIn, outerIn, vecAddIn, vecSubIn, vecScaleIn, dotIn, vecNormIn};
+ghost use Rattle.c_slices.specs.Calls.{zerosIn, filledIn, identityIn, transposeIn, scaleIn, negIn, frobNormIn, traceIn, invIn, choleskyIn};
+ghost use Rattle.c_slices.specs.Calls.{getIn, setIn, addIn, subIn, eqIn, mulIn, matvecIn, outerIn, vecAddIn, vecSubIn, vecScaleIn, dotIn, vecNormIn};
 
 #[no_mangle]
 pub extern "C" fn estimators_matrix_zeros(r: usize, c: usize, out: &mut [f64]) -> u8

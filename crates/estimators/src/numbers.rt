@@ -4,7 +4,7 @@ ghost use lib.ListN.{length};
 ghost use Rattle.root.specs.Root.{root as rootOf};
 ghost use Rattle.scalar.specs.Number.{abs, clamp, saturated, ofWhole};
 ghost use Rattle.answer.specs.Told.{given};
-ghost use Rattle.c_matrix.specs.Calls.{constantsIn};
+ghost use Rattle.c_slices.specs.Calls.{constantsIn};
 use scalar::ControlScalar;
 use scalar::PidScalar;
 

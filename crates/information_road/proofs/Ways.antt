@@ -16,8 +16,8 @@ use Rattle.matrix.specs.declared.VectorResult.{VectorResult}
 use Rattle.matrix.specs.declared.ScalarResult.{ScalarResult}
 use Rattle.matrix.specs.declared.ScalarResult.the-variants as Scalar
 use Rattle.matrix.specs.Result.{asMatrix}
-use Rattle.inverse.specs.Two.{inRows}
-use Rattle.inverse.proofs.Results.{was-answered, was-refused}
+use Rattle.small_inverse.specs.Two.{inRows}
+use Rattle.matrix.proofs.Results.{was-answered, was-refused}
 use Rattle.filtering.specs.Filter.{Motion, Estimate, estimate, predictedState, predictedCovariance, innovation}
 use Rattle.filtering.specs.Linear.{predict as linear}
 use Rattle.filtering.specs.Information.{Information, information, ofEstimate, covariance, state, predict, informed}

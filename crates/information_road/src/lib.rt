@@ -30,7 +30,7 @@ pub fn of_estimate(e: Pair, o: Pair) -> PairStepped
     ensures { λ v. ⌜ (v .answer, informationOf (v .pair)) ≡ steppedOf (informationOf o) (into (ofEstimate 2 (estimateOf e))) ⌝ }
 {
     let p = e.p;
-    let inverted = inverse::inverse_two(p.a, p.b, p.c, p.d);
+    let inverted = small_inverse::inverse_two(p.a, p.b, p.c, p.d);
     let status = inverted.status;
     match status {
         Status::Done => {

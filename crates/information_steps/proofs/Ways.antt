@@ -22,7 +22,7 @@ use Rattle.matrix.specs.declared.MatrixResult.{MatrixResult}
 use Rattle.matrix.specs.declared.VectorResult.{VectorResult}
 use Rattle.sizes.specs.Size.{count, front, part}
 use Rattle.matrix.specs.Result.{vectorResult, asMatrix, asVector}
-use Rattle.inverse.proofs.Results.{was-answered, was-refused}
+use Rattle.matrix.proofs.Results.{was-answered, was-refused}
 use Rattle.filtering.specs.Filter.{Motion, Sensor, Estimate, estimate, predictedState, predictedCovariance, innovation}
 use Rattle.filtering.specs.Information.{Information, information, ofEstimate, covariance, state, predict, informed, update}
 use Rattle.filtering.proofs.Shapes.{shape-propagated, length-predictedState}

@@ -2,5 +2,3 @@ pub mod Stores
 pub mod Rows
 pub mod Pivots
 pub mod Elimination
-pub mod Two
-pub mod Results

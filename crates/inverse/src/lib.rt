@@ -3,16 +3,14 @@
 ghost use mathlib.Core.Path.{_≡_};
 ghost use Prim.Native.Nat.{_<_, _≤_, _-_, suc};
 ghost use lib.ListN.{length};
-ghost use lib.Ieee.{lt};
-ghost use Rattle.scalar.specs.Number.{abs as absOf};
 ghost use Rattle.answer.specs.Answer.{refused, if-sized};
 ghost use Rattle.answer.specs.Table.{table};
-ghost use Rattle.algebra.specs.Matrix.{cell, oneByOne, twoByTwo};
+ghost use Rattle.algebra.specs.Matrix.{cell, oneByOne};
 ghost use Rattle.algebra.specs.Array.{used};
-ghost use Rattle.algebra.specs.Inverse.{noPivot, pivotRow, inv as invOf};
+ghost use Rattle.algebra.specs.Inverse.{pivotRow, inv as invOf};
 ghost use Rattle.sizes.specs.Size.{count, part, sized};
-ghost use Rattle.matrix.specs.Result.{matrixResult, asMatrix, asScalar};
-ghost use Rattle.inverse.specs.Two.{inRows, invNumber, fromDiagonal};
+ghost use Rattle.matrix.specs.Result.{matrixResult, asMatrix};
+ghost use Rattle.small_inverse.specs.Two.{inRows};
 ghost use Rattle.inverse.specs.Rows.{Swap, Scale, Reduce, Bring, Clear};
 use answer::Status;
 use matrix::MatrixResult;
@@ -20,15 +18,11 @@ use matrix::ScalarResult;
 use matrix::VectorResult;
 use sizes::Size;
 use sizes::number;
+use small_inverse::inverse_number;
+use small_inverse::inverse_two;
+use small_inverse::no_pivot;
 
 // ---- the pivot
-
-// A magnitude below EPSILON times 1,000,000, one product. A NaN is not below.
-fn no_pivot(x: f64) -> bool
-    ensures { λ r. ⌜ r ≡ noPivot (absOf x) ⌝ }
-{
-    scalar::ControlScalar::abs(x) < scalar::ControlScalar::EPSILON * 1000000.0
-}
 
 // The first row, from the diagonal down, of largest magnitude in column col.
 fn pivot_row(a: &[[f64; 4]; 4], n: Size, col: usize) -> usize
@@ -179,24 +173,6 @@ fn eliminate(a: &[[f64; 4]; 4], n: Size) -> MatrixResult
 
 // ---- the sizes 1 and 2, straight-line
 
-// The magnitude of x is larger than that of y. No NaN is larger than another number, or smaller.
-fn is_larger(x: f64, y: f64) -> bool
-    ensures { λ r. ⌜ r ≡ lt (absOf y) (absOf x) ⌝ }
-{
-    scalar::ControlScalar::abs(x) > scalar::ControlScalar::abs(y)
-}
-
-// The inverse of a matrix of one cell, as a number. Refused with 3: no pivot.
-pub fn inverse_number(x: f64) -> ScalarResult
-    ensures { λ r. ⌜ r ≡ asScalar (invNumber x) ⌝ }
-{
-    if no_pivot(x) {
-        ScalarResult::Refused(3)
-    } else {
-        ScalarResult::Value(1.0 * (1.0 / x))
-    }
-}
-
 fn inverse_one(x: f64) -> MatrixResult
     ensures { λ r. ⌜ r ≡ asMatrix (invOf 1 (oneByOne x)) ⌝ }
 {
@@ -208,41 +184,6 @@ fn inverse_one(x: f64) -> MatrixResult
         }
         ScalarResult::Refused(number) => matrix::matrix_refused(number),
     }
-}
-
-// The four cells in the end, row by row, of the rows (a, b), (p, q) beside the rows (e, f), (g, h), where a is
-// the first column's pivot.
-fn diagonal_two(a: f64, b: f64, p: f64, q: f64, e: f64, f: f64, g: f64, h: f64) -> VectorResult
-    ensures { λ r. ⌜ inRows r ≡ asMatrix (fromDiagonal (twoByTwo a b p q) (twoByTwo e f g h)) ⌝ }
-{
-    if no_pivot(a) {
-        return matrix::vector_refused(3);
-    }
-    let s = 1.0 / a;
-    let u = b * s;
-    let d = q - p * u;
-    if no_pivot(d) {
-        return matrix::vector_refused(3);
-    }
-    let t = 1.0 / d;
-    let v = (g - p * (e * s)) * t;
-    let w = (h - p * (f * s)) * t;
-    matrix::vector_result(Status::Done, [e * s - u * v, f * s - u * w, v, w])
-}
-
-// The four cells of the inverse of (a, b), (c, d), row by row. The rows are exchanged number by number, and the rest
-// stands once: that is short enough to be inlined.
-pub fn inverse_two(a: f64, b: f64, c: f64, d: f64) -> VectorResult
-    ensures { λ r. ⌜ inRows r ≡ asMatrix (invOf 2 (twoByTwo a b c d)) ⌝ }
-{
-    let t = is_larger(c, a);
-    let e = rows::pick(t, 0.0, 1.0);
-    let f = rows::pick(t, 1.0, 0.0);
-    let first = rows::pick(t, c, a);
-    let right = rows::pick(t, d, b);
-    let below = rows::pick(t, a, c);
-    let last = rows::pick(t, b, d);
-    diagonal_two(first, right, below, last, e, f, f, e)
 }
 
 // Four cells in their rows.

@@ -10,8 +10,8 @@ use Rattle.algebra.specs.Matrix.{Matrix, sumFrom, mul, matvec, transpose, add, 
 use Rattle.algebra.specs.Inverse.{inv}
 use Rattle.matrix.specs.declared.ScalarResult.{ScalarResult}
 use Rattle.matrix.specs.declared.ScalarResult.the-variants as Scalar
-use Rattle.inverse.specs.Two.{invNumber}
-use Rattle.inverse.proofs.Two.{number-is}
+use Rattle.small_inverse.specs.Two.{invNumber}
+use Rattle.small_inverse.proofs.Two.{number-is}
 use Rattle.filtering.specs.Filter.{Estimate, propagated, innovation}
 use Rattle.filtering.specs.Linear.{correction, update}
 use Rattle.road.specs.declared.Pair.{Pair}

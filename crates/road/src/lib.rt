@@ -130,7 +130,7 @@ pub fn innovation(h0: f64, h1: f64, r: f64, z: f64, e: Pair) -> Innovated
     let s0 = 0.0 + h0 * p.a + h1 * p.c;
     let s1 = 0.0 + h0 * p.b + h1 * p.d;
     let s = (0.0 + s0 * h0 + s1 * h1) + r;
-    let inverted = inverse::inverse_number(s);
+    let inverted = small_inverse::inverse_number(s);
     match inverted {
         ScalarResult::Value(w) => Innovated {
             answer: ScalarResult::Value(z - (0.0 + h0 * e.x0 + h1 * e.x1)),

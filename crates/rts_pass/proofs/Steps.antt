@@ -19,7 +19,7 @@ use Rattle.sizes.specs.declared.Size.{Size}
 use Rattle.matrix.specs.declared.MatrixResult.{MatrixResult}
 use Rattle.sizes.specs.Size.{count, front, part}
 use Rattle.matrix.specs.Result.{asMatrix}
-use Rattle.inverse.proofs.Results.{was-answered, was-refused}
+use Rattle.matrix.proofs.Results.{was-answered, was-refused}
 use Rattle.filtering.specs.Filter.{propagated, gain, correctedState}
 use Rattle.steps.specs.Step.{Rows, estimateRows, arraysOf}
 use Rattle.filtering.proofs.Shapes.{shape-gain}

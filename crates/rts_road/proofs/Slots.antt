@@ -10,8 +10,8 @@ use Rattle.algebra.specs.Inverse.{inv}
 use Rattle.algebra.proofs.Inverses.{inv-shape}
 use Rattle.matrix.specs.declared.VectorResult.{VectorResult}
 use Rattle.matrix.specs.Result.{asMatrix}
-use Rattle.inverse.specs.Two.{inRows}
-use Rattle.inverse.proofs.Results.{was-answered, was-refused}
+use Rattle.small_inverse.specs.Two.{inRows}
+use Rattle.matrix.proofs.Results.{was-answered, was-refused}
 use Rattle.filtering.specs.Filter.{Estimate, gain}
 use Rattle.road.specs.declared.Two.{Two}
 use Rattle.road.specs.declared.Pair.{Pair}

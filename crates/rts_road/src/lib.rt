@@ -52,7 +52,7 @@ pub fn smooth_two(e: Pair, y: Pair, f: Two, next: Pair) -> PairSmoothed
 {
     let q = y.p;
     let p = e.p;
-    let inverted = inverse::inverse_two(q.a, q.b, q.c, q.d);
+    let inverted = small_inverse::inverse_two(q.a, q.b, q.c, q.d);
     let status = inverted.status;
     match status {
         Status::Done => {

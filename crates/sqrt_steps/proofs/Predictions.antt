@@ -17,7 +17,7 @@ use Rattle.matrix.specs.declared.MatrixResult.{MatrixResult}
 use Rattle.sizes.specs.declared.Size.{Size}
 use Rattle.sizes.specs.Size.{count, front, part}
 use Rattle.matrix.specs.Result.{asMatrix}
-use Rattle.inverse.proofs.Results.{padded-is}
+use Rattle.matrix.proofs.Results.{padded-is}
 use Rattle.filtering.specs.Filter.{predictedState, propagated}
 use Rattle.filtering.specs.SquareRoot.{Factored, factored, covariance, predict}
 use Rattle.filtering.proofs.Shapes.{shape-propagated}

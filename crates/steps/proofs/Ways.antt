@@ -16,7 +16,7 @@ use Rattle.sizes.specs.Size.{count, front, part}
 use Rattle.algebra.proofs.Arrays.{used-pad, cut-padRow}
 use Rattle.algebra.proofs.Vectors.{length-vecSub}
 use Rattle.algebra.specs.Inverse.{inv}
-use Rattle.inverse.proofs.Results.{padded-is}
+use Rattle.matrix.proofs.Results.{padded-is}
 use Rattle.filtering.specs.Filter.{Estimate, propagated, innovation, gain, correctedState, correctedCovariance}
 use Rattle.filtering.specs.Linear.{correction, update}
 use Rattle.steps.specs.Step.{Rows, sensorRows, estimateRows, updatedRows}

@@ -13,8 +13,6 @@ use sizes::Size;
 use sizes::both;
 use sizes::number;
 
-pub mod four;
-
 // ---- the sizes of a filter, tested by one bool
 
 // All sizes are 1 to 4.
@@ -50,7 +48,7 @@ pub fn predicted_state<'a>(
 {
     if number(n) == 4 {
         if number(i) == 2 {
-            return four::predicted_state(a, b, x, u);
+            return four_states::predicted_state(a, b, x, u);
         }
     }
     let ax = rows::row_product_transposed(*x, a, n);
@@ -71,10 +69,10 @@ pub fn propagated<'a>(
     let rows = number(r);
     if number(n) == 4 {
         if rows == 4 {
-            return four::propagated(a, p, q);
+            return four_states::propagated(a, p, q);
         }
         if rows == 2 {
-            return four::propagated_two(a, p, q);
+            return four_states::propagated_two(a, p, q);
         }
     }
     let mut out = [[0.0; 4]; 4];
@@ -98,7 +96,7 @@ pub fn innovation<'a>(
 {
     if number(n) == 4 {
         if number(m) == 2 {
-            return four::innovation(h, x, z);
+            return four_states::innovation(h, x, z);
         }
     }
     let hx = rows::row_product_transposed(*x, h, n);
@@ -118,7 +116,7 @@ pub fn gain<'a>(
     let rows = number(n);
     if rows == 4 {
         if number(m) == 2 {
-            return four::gain(p, h, w);
+            return four_states::gain(p, h, w);
         }
     }
     let mut out = [[0.0; 4]; 4];
@@ -142,7 +140,7 @@ pub fn corrected_state<'a>(
 {
     if number(n) == 4 {
         if number(m) == 2 {
-            return four::corrected_state(k, y, x);
+            return four_states::corrected_state(k, y, x);
         }
     }
     let ky = rows::row_product_transposed(*y, k, m);
@@ -163,7 +161,7 @@ pub fn corrected_covariance<'a>(
     let rows = number(n);
     if rows == 4 {
         if number(m) == 2 {
-            return four::corrected_covariance(k, h, p);
+            return four_states::corrected_covariance(k, h, p);
         }
     }
     let e = kernel::identity_rows();

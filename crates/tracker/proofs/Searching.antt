@@ -15,8 +15,8 @@ use Rattle.algebra.specs.Inverse.{inv}
 use Rattle.algebra.proofs.Inverses.{inv-shape, inv-refused}
 use Rattle.matrix.specs.declared.VectorResult.{VectorResult}
 use Rattle.matrix.specs.Result.{asMatrix}
-use Rattle.inverse.specs.Two.{inRows}
-use Rattle.inverse.proofs.Results.{was-answered, was-refused}
+use Rattle.small_inverse.specs.Two.{inRows}
+use Rattle.matrix.proofs.Results.{was-answered, was-refused}
 use Rattle.smoothing.specs.Smoother.{Slot}
 use Rattle.smoothing.specs.Demand3.{Rejected}
 use Rattle.duty.specs.Buffer.{pairAt, slotFrom, slotAt, slotsOf}

@@ -39,7 +39,12 @@ pub(crate) fn latest_rejected(slots: &[f64], stored: usize) -> usize
     while 0 < k {
         k -= 1;
         let q = k * 12 + 8;
-        let inverted = inverse::inverse_two(slots[q], slots[q + 1], slots[q + 2], slots[q + 3]);
+        let inverted = small_inverse::inverse_two(
+            slots[q],
+            slots[q + 1],
+            slots[q + 2],
+            slots[q + 3],
+        );
         let status = inverted.status;
         match status {
             Status::Done => {}

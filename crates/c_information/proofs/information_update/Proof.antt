@@ -8,7 +8,7 @@ use borrow.Author.Tests.{eqb-true}
 use borrow.Author.Needs.{needs}
 use Rattle.answer.proofs.Choice.{and-left, and-right}
 use Rattle.matrix.proofs.Results.{answered-value, refused-number}
-use Rattle.inverse.specs.Two.{invNumber}
+use Rattle.small_inverse.specs.Two.{invNumber}
 use Rattle.c_copies.specs.Filter.{isRoad}
 use Rattle.c_filters.proofs.Roads.{Road, road-of, road-read, pair-put}
 use Rattle.c_information.proofs.Roads.{not-updated, updates, refuses}

@@ -1,7 +1,7 @@
 -- `matrix_matvec` meets its contract.
 use Rattle.algebra.specs.Matrix.{matvec}
 use Rattle.algebra.proofs.Vectors.{length-matvec}
-use Rattle.c_matrix.proofs.Ways.{rows-at, cols-at, three-of, matrix-in, vector-in, vector-made, refuses, none}
+use Rattle.c_slices.proofs.Ways.{rows-at, cols-at, three-of, matrix-in, vector-in, vector-made, refuses, none}
 use Rattle.c_vector.proofs.matrix_matvec.Statement.{statement}
 use Rattle.c_vector.proofs.matrix_matvec.Tie as tie
 

@@ -1,6 +1,6 @@
 -- `matrix_vec_dot` meets its contract.
 use Rattle.algebra.specs.Matrix.{dot}
-use Rattle.c_matrix.proofs.Ways.{two-of, number-handed, paired-true, refuses, none}
+use Rattle.c_slices.proofs.Ways.{two-of, number-handed, paired-true, refuses, none}
 use Rattle.c_vector.proofs.matrix_vec_dot.Statement.{statement}
 use Rattle.c_vector.proofs.matrix_vec_dot.Tie as tie
 

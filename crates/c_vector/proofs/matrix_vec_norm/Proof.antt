@@ -1,6 +1,6 @@
 -- `matrix_vec_norm` meets its contract.
 use Rattle.algebra.specs.Matrix.{vecNorm}
-use Rattle.c_matrix.proofs.Ways.{one-of, number-handed, refuses, none}
+use Rattle.c_slices.proofs.Ways.{one-of, number-handed, refuses, none}
 use Rattle.c_vector.proofs.matrix_vec_norm.Statement.{statement}
 use Rattle.c_vector.proofs.matrix_vec_norm.Tie as tie
 

@@ -12,7 +12,7 @@ use Rattle.algebra.specs.Matrix.{at, vecScale}
 use Rattle.algebra.specs.Array.{cut}
 use Rattle.algebra.proofs.Vectors.{each-cut}
 use Rattle.sizes.proofs.Sizes.{Bounds, bounds-of}
-use Rattle.c_matrix.proofs.Ways.{rows-at, two-of, vector-in, told, vector-out, refuses, none}
+use Rattle.c_slices.proofs.Ways.{rows-at, two-of, vector-in, told, vector-out, refuses, none}
 use Rattle.c_vector.proofs.matrix_vec_scale.Statement.{statement}
 use Rattle.c_vector.proofs.matrix_vec_scale.Tie as tie
 

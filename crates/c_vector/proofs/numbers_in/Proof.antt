@@ -1,7 +1,7 @@
 -- `numbers_in` meets its contract.
 use mathlib.Core.Path.{sym, _∙_}
 use Rattle.algebra.specs.Array.{cut}
-use Rattle.c_matrix.proofs.Ways.{whole-of, rows-at, vector-in, none}
+use Rattle.c_slices.proofs.Ways.{whole-of, rows-at, vector-in, none}
 use Rattle.c_vector.proofs.numbers_in.Statement.{statement}
 use Rattle.c_vector.proofs.numbers_in.Tie as tie
 

@@ -6,8 +6,8 @@ use Rattle.answer.specs.Answer.{mapped}
 use Rattle.algebra.specs.Array.{pad}
 use Rattle.matrix.specs.Result.{asMatrix}
 use Rattle.matrix.proofs.Results.{answered-value, refused-number}
-use Rattle.inverse.specs.Two.{invNumber}
-use Rattle.inverse.proofs.Two.{number-is}
+use Rattle.small_inverse.specs.Two.{invNumber}
+use Rattle.small_inverse.proofs.Two.{number-is}
 use Rattle.inverse.proofs.inverse_one.Statement.{statement}
 use Rattle.inverse.proofs.inverse_one.Tie as tie
 

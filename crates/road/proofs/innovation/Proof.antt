@@ -1,6 +1,6 @@
 -- `road::innovation` meets its contract: by what the inversion of one number answers.
 use Rattle.matrix.proofs.Results.{answered-value, refused-number}
-use Rattle.inverse.specs.Two.{invNumber}
+use Rattle.small_inverse.specs.Two.{invNumber}
 use Rattle.road.proofs.Roads.{variance, when-answered, when-refused}
 use borrow.Author.Needs.{needs}
 use Rattle.road.proofs.innovation.Statement.{statement}

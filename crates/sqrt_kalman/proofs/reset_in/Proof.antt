@@ -6,7 +6,7 @@ use Rattle.algebra.specs.Cholesky.{cholesky}
 use Rattle.algebra.proofs.Factors.{shape-cholesky}
 use Rattle.sizes.specs.Size.{count, part}
 use Rattle.sizes.proofs.Sizes.{is-count}
-use Rattle.inverse.proofs.Results.{was-answered, was-refused}
+use Rattle.matrix.proofs.Results.{was-answered, was-refused}
 use Rattle.steps.proofs.Sizes.{fits}
 use Rattle.sqrt_steps.proofs.Predictions.{answered-rows}
 use Rattle.sqrt_kalman.proofs.Starts.{reset-done, reset-refused, reset-unfit}

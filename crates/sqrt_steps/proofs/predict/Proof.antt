@@ -5,7 +5,7 @@ use Rattle.algebra.specs.Cholesky.{cholesky}
 use Rattle.algebra.proofs.Factors.{shape-cholesky}
 use Rattle.sizes.specs.Size.{count}
 use Rattle.matrix.specs.Result.{asMatrix}
-use Rattle.inverse.proofs.Results.{was-answered, was-refused}
+use Rattle.matrix.proofs.Results.{was-answered, was-refused}
 use Rattle.filtering.specs.Filter.{predictedState}
 use Rattle.sqrt_steps.proofs.Predictions.{answered-rows, S, factorization, when-factored, when-unfactored}
 use Rattle.sqrt_steps.proofs.predict.Statement.{statement}

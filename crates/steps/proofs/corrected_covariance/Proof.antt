@@ -10,7 +10,7 @@ use Rattle.sizes.proofs.Sizes.{bounds}
 use Rattle.rows.proofs.RowWise.{rows-are}
 use Rattle.filtering.specs.Filter.{correctedCovariance}
 use Rattle.filtering.proofs.Shapes.{shape-correctedCovariance}
-use Rattle.steps.proofs.Parts.{corrected-row}
+use Rattle.four_states.proofs.Parts.{corrected-row}
 use Rattle.steps.proofs.corrected_covariance.Statement.{statement}
 use Rattle.steps.proofs.corrected_covariance.Tie as tie
 

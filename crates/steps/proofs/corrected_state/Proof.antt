@@ -4,7 +4,7 @@ use Rattle.algebra.specs.Array.{padRow, cut, used}
 use Rattle.sizes.specs.Size.{count}
 use Rattle.sizes.proofs.Sizes.{bounds}
 use Rattle.filtering.specs.Filter.{correctedState}
-use Rattle.steps.proofs.Vectors.{vector-of-cut, vector-of-product, vector-of-sum, vector-leading}
+use Rattle.four_states.proofs.Vectors.{vector-of-cut, vector-of-product, vector-of-sum, vector-leading}
 use Rattle.steps.proofs.corrected_state.Statement.{statement}
 use Rattle.steps.proofs.corrected_state.Tie as tie
 

@@ -10,7 +10,7 @@ use Rattle.sizes.proofs.Sizes.{bounds}
 use Rattle.rows.proofs.RowWise.{rows-are}
 use Rattle.filtering.specs.Filter.{gain}
 use Rattle.filtering.proofs.Shapes.{shape-gain}
-use Rattle.steps.proofs.Parts.{gain-row}
+use Rattle.four_states.proofs.Parts.{gain-row}
 use Rattle.steps.proofs.gain.Statement.{statement}
 use Rattle.steps.proofs.gain.Tie as tie
 

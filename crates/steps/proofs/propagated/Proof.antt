@@ -10,7 +10,7 @@ use Rattle.sizes.proofs.Sizes.{bounds}
 use Rattle.rows.proofs.RowWise.{rows-are}
 use Rattle.filtering.specs.Filter.{propagated}
 use Rattle.filtering.proofs.Shapes.{shape-propagated}
-use Rattle.steps.proofs.Parts.{propagated-row}
+use Rattle.four_states.proofs.Parts.{propagated-row}
 use Rattle.steps.proofs.propagated.Statement.{statement}
 use Rattle.steps.proofs.propagated.Tie as tie
 

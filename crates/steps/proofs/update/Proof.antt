@@ -6,7 +6,7 @@ use Rattle.answer.specs.Answer.{answered}
 use Rattle.algebra.specs.Inverse.{inv}
 use Rattle.algebra.proofs.Inverses.{inv-shape}
 use Rattle.sizes.specs.Size.{count, part}
-use Rattle.inverse.proofs.Results.{was-answered, was-refused}
+use Rattle.matrix.proofs.Results.{was-answered, was-refused}
 use Rattle.steps.proofs.Ways.{S, inversion, when-answered, when-refused}
 use borrow.Author.Needs.{needs}
 use Rattle.steps.proofs.update.Statement.{statement}

@@ -1,6 +1,6 @@
 -- `matrix_get` meets its contract: its test has two parts.
 use Rattle.algebra.specs.Matrix.{cell}
-use Rattle.c_matrix.proofs.Ways.{both-of, both-passed, number-handed, refuses, none}
+use Rattle.c_slices.proofs.Ways.{both-of, both-passed, number-handed, refuses, none}
 use Rattle.c_matrix.proofs.cells.matrix_get.Statement.{statement}
 use Rattle.c_matrix.proofs.cells.matrix_get.Tie as tie
 

@@ -2,7 +2,7 @@
 use mathlib.Core.Path.{refl}
 use Rattle.algebra.specs.Matrix.{setCell}
 use Rattle.algebra.proofs.Matrices.{shape-set}
-use Rattle.c_matrix.proofs.Ways.{both-of, both-passed, two-of, matrix-handed, refuses, none}
+use Rattle.c_slices.proofs.Ways.{both-of, both-passed, two-of, matrix-handed, refuses, none}
 use Rattle.c_matrix.proofs.cells.matrix_set.Statement.{statement}
 use Rattle.c_matrix.proofs.cells.matrix_set.Tie as tie
 

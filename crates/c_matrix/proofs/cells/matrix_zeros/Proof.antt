@@ -1,6 +1,6 @@
 -- `matrix_zeros` meets its contract.
 use Rattle.algebra.specs.Matrix.{zeros}
-use Rattle.c_matrix.proofs.Ways.{none}
+use Rattle.c_slices.proofs.Ways.{none}
 use Rattle.c_matrix.proofs.cells.matrix_zeros.Statement.{statement}
 use Rattle.c_matrix.proofs.cells.matrix_zeros.Tie as tie
 

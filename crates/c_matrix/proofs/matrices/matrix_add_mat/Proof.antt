@@ -1,7 +1,7 @@
 -- `matrix_add_mat` meets its contract.
 use Rattle.algebra.specs.Matrix.{add}
 use Rattle.algebra.proofs.Matrices.{shape-add}
-use Rattle.c_matrix.proofs.Ways.{rows-at, cols-at, three-of, matrix-in, matrix-made, refuses, none}
+use Rattle.c_slices.proofs.Ways.{rows-at, cols-at, three-of, matrix-in, matrix-made, refuses, none}
 use Rattle.c_matrix.proofs.matrices.matrix_add_mat.Statement.{statement}
 use Rattle.c_matrix.proofs.matrices.matrix_add_mat.Tie as tie
 

@@ -6,9 +6,9 @@ use Rattle.algebra.specs.Cholesky.{cholesky}
 use Rattle.algebra.proofs.Factors.{shape-cholesky}
 use Rattle.sizes.specs.Size.{count}
 use Rattle.sizes.proofs.Sizes.{bounds, bounds-of}
-use Rattle.c_matrix.specs.Slices.{rows}
+use Rattle.c_slices.specs.Slices.{rows}
 use Rattle.c_matrix.proofs.Products.{rows-in}
-use Rattle.c_matrix.proofs.Ways.{Two, two-of, rows-at, answer-handed, if-refuses, none}
+use Rattle.c_slices.proofs.Ways.{Two, two-of, rows-at, answer-handed, if-refuses, none}
 use Rattle.c_matrix.proofs.matrices.matrix_cholesky.Statement.{statement}
 use Rattle.c_matrix.proofs.matrices.matrix_cholesky.Tie as tie
 

@@ -1,6 +1,6 @@
 -- `matrix_eq` meets its contract.
 use Rattle.algebra.specs.Matrix.{equal}
-use Rattle.c_matrix.proofs.Ways.{two-of, bool-handed, alike-true, refuses, none}
+use Rattle.c_slices.proofs.Ways.{two-of, bool-handed, alike-true, refuses, none}
 use Rattle.c_matrix.proofs.matrices.matrix_eq.Statement.{statement}
 use Rattle.c_matrix.proofs.matrices.matrix_eq.Tie as tie
 

@@ -1,6 +1,6 @@
 -- `matrix_frob_norm` meets its contract.
 use Rattle.algebra.specs.Matrix.{frobNorm}
-use Rattle.c_matrix.proofs.Ways.{one-of, number-handed, refuses, none}
+use Rattle.c_slices.proofs.Ways.{one-of, number-handed, refuses, none}
 use Rattle.c_matrix.proofs.matrices.matrix_frob_norm.Statement.{statement}
 use Rattle.c_matrix.proofs.matrices.matrix_frob_norm.Tie as tie
 

@@ -3,9 +3,9 @@ use native.Mathlib.Omega.{arith}
 use Rattle.algebra.specs.Matrix.{at}
 use Rattle.algebra.specs.Inverse.{inv}
 use Rattle.algebra.proofs.Inverses.{inv-shape}
-use Rattle.inverse.specs.Two.{invNumber}
-use Rattle.inverse.proofs.Two.{number-is}
-use Rattle.c_matrix.proofs.Ways.{Two, two-of, rows-at, matrix-in, answer-handed, one-long, number-answered, if-refuses, none}
+use Rattle.small_inverse.specs.Two.{invNumber}
+use Rattle.small_inverse.proofs.Two.{number-is}
+use Rattle.c_slices.proofs.Ways.{Two, two-of, rows-at, matrix-in, answer-handed, one-long, number-answered, if-refuses, none}
 use Rattle.c_matrix.proofs.matrices.matrix_inv.Statement.{statement}
 use Rattle.c_matrix.proofs.matrices.matrix_inv.Tie as tie
 

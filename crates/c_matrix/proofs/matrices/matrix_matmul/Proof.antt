@@ -2,8 +2,8 @@
 use mathlib.Core.Path.{refl, sym, ap₂, _∙_}
 use Prim.Native.Nat.{ℕ, _*_}
 use Rattle.answer.specs.Answer.{answered, where-sized}
-use Rattle.c_matrix.specs.Calls.{productIn}
-use Rattle.c_matrix.proofs.Ways.{Three, three-of, rows-at, cols-at, told, refuses, none}
+use Rattle.c_slices.specs.Calls.{productIn}
+use Rattle.c_slices.proofs.Ways.{Three, three-of, rows-at, cols-at, told, refuses, none}
 use Rattle.c_matrix.proofs.matrices.matrix_matmul.Statement.{statement}
 use Rattle.c_matrix.proofs.matrices.matrix_matmul.Tie as tie
 

@@ -1,6 +1,6 @@
 -- `matrix_neg` meets its contract.
 use Rattle.algebra.specs.Matrix.{negated}
-use Rattle.c_matrix.proofs.Ways.{none}
+use Rattle.c_slices.proofs.Ways.{none}
 use Rattle.c_matrix.proofs.matrices.matrix_neg.Statement.{statement}
 use Rattle.c_matrix.proofs.matrices.matrix_neg.Tie as tie
 

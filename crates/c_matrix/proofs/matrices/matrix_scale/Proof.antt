@@ -1,7 +1,7 @@
 -- `matrix_scale` meets its contract.
 use Rattle.algebra.specs.Matrix.{scale}
 use Rattle.algebra.proofs.Matrices.{shape-scale}
-use Rattle.c_matrix.proofs.Ways.{two-of, matrix-handed, refuses, none}
+use Rattle.c_slices.proofs.Ways.{two-of, matrix-handed, refuses, none}
 use Rattle.c_matrix.proofs.matrices.matrix_scale.Statement.{statement}
 use Rattle.c_matrix.proofs.matrices.matrix_scale.Tie as tie
 

@@ -1,7 +1,7 @@
 -- `matrix_sub_mat` meets its contract.
 use Rattle.algebra.specs.Matrix.{sub}
 use Rattle.algebra.proofs.Matrices.{shape-sub}
-use Rattle.c_matrix.proofs.Ways.{rows-at, cols-at, three-of, matrix-in, matrix-made, refuses, none}
+use Rattle.c_slices.proofs.Ways.{rows-at, cols-at, three-of, matrix-in, matrix-made, refuses, none}
 use Rattle.c_matrix.proofs.matrices.matrix_sub_mat.Statement.{statement}
 use Rattle.c_matrix.proofs.matrices.matrix_sub_mat.Tie as tie
 

@@ -1,6 +1,6 @@
 -- `matrix_trace` meets its contract.
 use Rattle.algebra.specs.Matrix.{trace}
-use Rattle.c_matrix.proofs.Ways.{one-of, number-handed, refuses, none}
+use Rattle.c_slices.proofs.Ways.{one-of, number-handed, refuses, none}
 use Rattle.c_matrix.proofs.matrices.matrix_trace.Statement.{statement}
 use Rattle.c_matrix.proofs.matrices.matrix_trace.Tie as tie
 

@@ -1,7 +1,7 @@
 -- `matrix_transpose` meets its contract.
 use Rattle.algebra.specs.Matrix.{transpose}
 use Rattle.algebra.proofs.Matrices.{shape-transpose}
-use Rattle.c_matrix.proofs.Ways.{rows-at, cols-at, two-of, matrix-in, matrix-made, refuses, none}
+use Rattle.c_slices.proofs.Ways.{rows-at, cols-at, two-of, matrix-in, matrix-made, refuses, none}
 use Rattle.c_matrix.proofs.matrices.matrix_transpose.Statement.{statement}
 use Rattle.c_matrix.proofs.matrices.matrix_transpose.Tie as tie
 

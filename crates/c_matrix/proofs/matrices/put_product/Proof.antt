@@ -17,10 +17,10 @@ use Rattle.layout.proofs.Places.{placed-whole}
 use Rattle.layout.proofs.Rows.{length-rows}
 use Rattle.layout.proofs.Loops.{Putting, putting-none, putting-room, putting-more, putting-all}
 use Rattle.layout.proofs.Calls.{vector-put}
-use Rattle.c_matrix.specs.Slices.{rows}
-use Rattle.c_matrix.specs.Calls.{productIn}
+use Rattle.c_slices.specs.Slices.{rows}
+use Rattle.c_slices.specs.Calls.{productIn}
 use Rattle.c_matrix.proofs.Products.{productRow, row-in, rows-in, product-row}
-use Rattle.c_matrix.proofs.Ways.{none}
+use Rattle.c_slices.proofs.Ways.{none}
 use Rattle.c_matrix.proofs.matrices.put_product.Statement.{statement}
 use Rattle.c_matrix.proofs.matrices.put_product.Tie as tie
 

@@ -9,8 +9,8 @@ use Rattle.scalar.specs.declared.Constants.{Constants}
 use Rattle.answer.specs.Answer.{answered, where-sized}
 use Rattle.layout.proofs.Places.{placed-whole}
 use Rattle.layout.proofs.Calls.{slice-put}
-use Rattle.c_matrix.specs.Calls.{constantNumbers}
-use Rattle.c_matrix.proofs.Ways.{told, refuses, none}
+use Rattle.c_slices.specs.Calls.{constantNumbers}
+use Rattle.c_slices.proofs.Ways.{told, refuses, none}
 use Rattle.c_matrix.proofs.numbers.scalar_constants.Statement.{statement}
 use Rattle.c_matrix.proofs.numbers.scalar_constants.Tie as tie
 

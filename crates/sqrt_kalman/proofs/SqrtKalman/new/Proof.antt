@@ -5,7 +5,7 @@ use Rattle.algebra.specs.Cholesky.{cholesky}
 use Rattle.algebra.proofs.Factors.{shape-cholesky}
 use Rattle.sizes.specs.Size.{count, part}
 use Rattle.sizes.proofs.Sizes.{is-count}
-use Rattle.inverse.proofs.Results.{was-answered, was-refused}
+use Rattle.matrix.proofs.Results.{was-answered, was-refused}
 use Rattle.steps.proofs.Sizes.{well-sized}
 use Rattle.steps.specs.Flat.{motionFrom}
 use Rattle.sqrt_steps.proofs.Predictions.{answered-rows}
