@@ -24,8 +24,7 @@ use Rattle.layout.proofs.Calls.{matrix-used, slice-put}
 use Rattle.smoothing.specs.Smoother.{smooth}
 use Rattle.duty.specs.Buffer.{dutyOf, outputOf, buffered}
 use Rattle.duty.specs.Buffer.{smoothable}
-use Rattle.rts_pass.specs.Pass.{smoothInto, smoothOf}
-use Rattle.duty.specs.Passed.{smoothLeft}
+use Rattle.duty.specs.Passed.{smoothLeft, smoothInto, smoothOf}
 use Rattle.duty.proofs.Sizes.{buffered-of, buffer-small, square-small, stride-is}
 use Rattle.c_smoothers.specs.Smoother.{isPairs, isSquare, storeIn, slotIn, smoothIn}
 

@@ -5,8 +5,14 @@ ghost use mathlib.Core.Bool.{cond};
 ghost use Rattle.sizes.specs.Size.{sized};
 ghost use Rattle.layout.specs.Layout.{stride};
 ghost use Rattle.duty.specs.Buffer.{roomy, counted, buffered, smoothable};
+ghost use Rattle.duty.specs.Promise.{Refusals};
 use scalar::ControlScalar;
 use sizes::both;
+
+// A promise: nothing is done, and the crate is not proved without what Refusals states.
+pub fn smooth_refusals()
+    ensures { λ r. ⌜ Refusals ⌝ }
+{}
 
 // Room for 1 to 64 slots.
 fn is_room(room: usize) -> bool

@@ -24,9 +24,8 @@ use Rattle.smoothing.specs.Backward.{pass}
 use Rattle.smoothing.specs.Smoother.{slotGain, smoothedPair, smoothSlots, smooth}
 use Rattle.smoothing.proofs.Backward.{Each, each-table, pass-each, pass-count}
 use Rattle.duty.specs.Buffer.{pairAt, slotFrom, slotAt, slotsOf, dutyOf, pairNumbers, outputOf}
-use Rattle.duty.specs.Passed.{Passed, smoothLeft}
+use Rattle.duty.specs.Passed.{Passed, smoothLeft, smoothOf}
 use Rattle.duty.specs.Buffer.{smoothable}
-use Rattle.rts_pass.specs.Pass.{smoothOf}
 use Rattle.duty.proofs.Sizes.{smoothable-of}
 use Rattle.duty.proofs.Pairs.{Paired, length-pair, paired-at, pair-back}
 use Rattle.duty.proofs.Passes.{paired-smoothed, told-done, told-refused}

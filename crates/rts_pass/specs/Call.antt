@@ -15,7 +15,7 @@ use Rattle.smoothing.specs.Smoother.{Duty}
 use Rattle.layout.specs.Layout.{pairLength}
 use Rattle.duty.specs.Buffer.{pairAt, dutyOf}
 use Rattle.duty.specs.Buffer.{smoothable}
-use Rattle.rts_pass.specs.Pass.{smoothOf}
+use Rattle.duty.specs.Passed.{smoothOf}
 
 -- what the call is given; all sizes are right
 pub record Call : Type 0 where

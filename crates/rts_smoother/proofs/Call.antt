@@ -17,8 +17,7 @@ use Rattle.layout.specs.Layout.{stride}
 use Rattle.smoothing.specs.Smoother.{smooth}
 use Rattle.smoothing.specs.Demand3.{Demand3}
 use Rattle.smoothing.proofs.Demand3.{demand3-by}
-use Rattle.rts_pass.specs.Pass.{smoothInto}
-use Rattle.duty.specs.Passed.{smoothLeft}
+use Rattle.duty.specs.Passed.{smoothLeft, smoothInto}
 use Rattle.rts_pass.specs.Call.{answerOf}
 use Rattle.rts_pass.proofs.Call.{call-is-smooth}
 use Rattle.duty.specs.Buffer.{dutyOf}

@@ -18,8 +18,7 @@ use Rattle.filtering.specs.Filter.{estimate}
 use Rattle.layout.specs.Layout.{placed, stride}
 use Rattle.smoothing.specs.Smoother.{Slot}
 use Rattle.duty.specs.Buffer.{slotNumbers, counted, buffered}
-use Rattle.rts_pass.specs.Pass.{smoothInto}
-use Rattle.duty.specs.Passed.{smoothLeft}
+use Rattle.duty.specs.Passed.{smoothLeft, smoothInto}
 use Rattle.rts_smoother.specs.declared.FilteredState.{FilteredState}
 use Rattle.rts_smoother.specs.declared.StateResult.{StateResult}
 use Rattle.rts_smoother.specs.declared.RtsSmoother.{RtsSmoother}

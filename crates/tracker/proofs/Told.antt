@@ -21,7 +21,7 @@ use Rattle.road.specs.Road.{matrixOf}
 use Rattle.smoothing.specs.Smoother.{Duty, smooth}
 use Rattle.duty.specs.Buffer.{pairAt, slotFrom, slotAt, slotsOf, dutyOf, roomy, counted, buffered}
 use Rattle.duty.specs.Buffer.{smoothable}
-use Rattle.rts_pass.specs.Pass.{smoothOf}
+use Rattle.duty.specs.Passed.{smoothOf}
 use Rattle.rts_pass.specs.Call.{Call, pairsOf, answerOf}
 use Rattle.rts_pass.proofs.Call.{call-is-smooth}
 use Rattle.tracking.specs.Track.{Smoothed, positions, latest, refusedAt}
