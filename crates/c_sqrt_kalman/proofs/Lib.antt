@@ -1,5 +1,2 @@
 pub mod Filters
-pub mod Outcomes
-pub mod Steps
-pub mod Starts
-mod Roads
+mod Starts

@@ -6,14 +6,12 @@ use lib.Dec.{eqb}
 use lib.ListN.{length, take, drop}
 use lib.Ieee.{Float}
 use Rattle.answer.specs.Answer.{Answer, where-sized, if-sized, mapped}
-use Rattle.answer.specs.Outcome.{Outcome, into, if-fitting, standing, handed}
+use Rattle.answer.specs.Outcome.{Outcome, into, handed}
 use Rattle.answer.specs.Told.{numberOf}
-use Rattle.algebra.specs.Matrix.{Vector}
-use Rattle.filtering.specs.Filter.{Motion, Sensor, estimate}
-use Rattle.filtering.specs.SquareRoot.{Factored, factored, ofEstimate, covariance, predict, update}
+use Rattle.filtering.specs.Filter.{estimate}
+use Rattle.filtering.specs.SquareRoot.{Factored, factored, ofEstimate, covariance}
 use Rattle.layout.specs.Layout.{vectorAt, matrixAt, joined, placed, total, offset, partAt, rootParts}
 use Rattle.steps.specs.Step.{wellSized}
-use Rattle.c_copies.specs.Filter.{toldIn}
 
 -- ---- sizes
 
@@ -39,12 +37,6 @@ isParts n m i k a b h q r x s =
     isFilter n m i k && ((eqb a (n * n) && (eqb b (n * i) && eqb h (m * n))) && ((eqb q (n * n) && eqb r m) && (eqb x n && eqb s (n * n))))
 
 -- ---- what the slice f holds
-abbrev pub motionAt : ℕ → ℕ → ℕ → List Float → Motion
-motionAt n m i f = let L = rootParts n m i in record { n = n; i = i; a = partAt L f 0; b = partAt L f 1; q = partAt L f 3 }
-
-abbrev pub channelAt : ℕ → ℕ → ℕ → List Float → Sensor Vector
-channelAt n m i f = let L = rootParts n m i in record { n = n; m = m; h = partAt L f 2; r = vectorAt m f (offset L 4) }
-
 abbrev pub factoredAt : ℕ → ℕ → ℕ → List Float → Factored
 factoredAt n m i f = factored (vectorAt n f (statePlace n m i)) (partAt (rootParts n m i) f 6)
 
@@ -52,22 +44,12 @@ factoredAt n m i f = factored (vectorAt n f (statePlace n m i)) (partAt (rootPar
 abbrev pub withFactored : ℕ → ℕ → ℕ → List Float → Factored → List Float
 withFactored n m i f g = placed (statePlace n m i) (g .state ++ joined (g .factor)) f
 
--- ---- the steps: 1 where a size does not fit, else the filter's own outcome; what is told is a number
+-- ---- what a call that changes the filter tells and leaves: 1 where a size does not fit, else an outcome; what is told is a number
 abbrev pub steppedIn : ℕ → ℕ → ℕ → List Float → Outcome Factored (Unit {0}) → ℕ × List Float
 steppedIn n m i f o = handed numberOf (withFactored n m i f) f o
 
-abbrev pub predictIn : ℕ → ℕ → ℕ → List Float → List Float → ℕ × List Float
-predictIn n m i f u = steppedIn n m i f (if-fitting (isStep n m i (length f) i (length u)) (predict (motionAt n m i f) u (factoredAt n m i f)))
-
 abbrev pub resetIn : ℕ → ℕ → ℕ → List Float → List Float → List Float → ℕ × List Float
 resetIn n m i f x p = steppedIn n m i f (into (if-sized (isStepWith n m i (length f) n (length x) (n * n) (length p)) (ofEstimate n (estimate x (matrixAt n n p 0)))))
-
--- the outcome of an update of f, with the innovations in a slice that held y
-abbrev pub outcomeIn : ℕ → ℕ → ℕ → List Float → List Float → Outcome Factored Vector → ℕ × (List Float × List Float)
-outcomeIn n m i f y o = (numberOf (o .told), (standing (withFactored n m i f) f (o .left), toldIn y (o .told)))
-
-abbrev pub updateIn : ℕ → ℕ → ℕ → List Float → List Float → List Float → ℕ × (List Float × List Float)
-updateIn n m i f z y = outcomeIn n m i f y (if-fitting (isStepWith n m i (length f) m (length z) m (length y)) (update (channelAt n m i f) z (factoredAt n m i f)))
 
 -- ---- a filter of given parts, for a slice of k numbers: the parts, one after another
 abbrev pub numbersOf : List Float → List Float → List Float → List Float → List Float → List Float → List Float → List Float

@@ -3,7 +3,8 @@
 ghost use mathlib.Core.Path.{_≡_};
 ghost use lib.ListN.{length};
 ghost use Rattle.answer.specs.Told.{given};
-ghost use Rattle.c_sqrt_kalman.specs.Root.{predictIn, updateIn, newIn, fromCholeskyIn, resetIn, stateIn, covarianceIn, factorIn};
+ghost use Rattle.c_sqrt_kalman.specs.Root.{newIn, fromCholeskyIn, resetIn, stateIn, covarianceIn, factorIn};
+ghost use Rattle.c_sqrt_steps.specs.Step.{predictIn, updateIn};
 
 // One step on, with the input u of i numbers. Refused with 4: the new covariance has no factor; the state is then the new one, and
 // the factor the old.
@@ -17,7 +18,7 @@ pub extern "C" fn estimators_sqrt_kalman_predict(
 ) -> u8
     ensures { λ t. ⌜ (t, now (filter .exit)) ≡ predictIn n m i (now (filter .entry)) (now (u .entry)) ⌝ }
 {
-    c_sqrt_kalman::sqrt_kalman_predict(n, m, i, filter, u)
+    c_sqrt_steps::sqrt_kalman_predict(n, m, i, filter, u)
 }
 
 // Corrected by the measurement z of m numbers, one component after another; the innovations in order. Refused with 3: a component's
@@ -34,7 +35,7 @@ pub extern "C" fn estimators_sqrt_kalman_update(
 ) -> u8
     ensures { λ t. ⌜ (t, (now (filter .exit), now (innovation .exit))) ≡ updateIn n m i (now (filter .entry)) (now (z .entry)) (now (innovation .entry)) ⌝ }
 {
-    c_sqrt_kalman::sqrt_kalman_update(n, m, i, filter, z, innovation)
+    c_sqrt_steps::sqrt_kalman_update(n, m, i, filter, z, innovation)
 }
 
 // Another state x0, and the factor of the covariance p0; the model stays. Refused with 4: p0 has no factor, and nothing changes.

@@ -2,7 +2,7 @@
 use mathlib.Core.Path.{_≡_, refl, sym, ap, ap₂, _∙_}
 use mathlib.Core.List.{List, _++_, append-assoc}
 use mathlib.Core.Bool.{true}
-use Prim.Native.Nat.{ℕ, _+_, _*_, _≤_}
+use Prim.Native.Nat.{ℕ, _+_, _-_, _*_, _≤_}
 use native.Mathlib.Omega.{arith}
 use lib.ListN.{length, take, drop, length-take, length-drop, take-append-drop}
 use lib.Seq.{take-add, drop-drop}
@@ -32,9 +32,10 @@ use Rattle.steps.proofs.Sizes as Sizes
 use Rattle.sqrt_steps.specs.Step.{channelRows, factoredRows, arraysOf}
 use Rattle.sqrt_steps.proofs.Components.{Sized}
 use Rattle.c_copies.specs.Filter.{toldIn}
-use Rattle.c_sqrt_kalman.specs.Root.{statePlace, motionAt, channelAt, factoredAt, withFactored, steppedIn, outcomeIn}
+use Rattle.c_sqrt_kalman.specs.Root.{statePlace, factoredAt, withFactored, steppedIn}
+use Rattle.c_sqrt_steps.specs.Step.{motionAt, channelAt, outcomeIn}
 use Rattle.c_sqrt_kalman.proofs.Filters.{Whole}
-use Rattle.c_sqrt_kalman.proofs.Outcomes.{Kept, none, some, Tells, told-length, update-tells, update-kept, predict-kept}
+use Rattle.c_sqrt_steps.proofs.Outcomes.{Kept, none, some, Tells, told-length, update-tells, update-kept, predict-kept}
 
 -- what stands in a slice is placed there again
 pub placed-again : (k w : ℕ) (f : List Float) → k + w ≤ length f → placed k (take w (drop k f)) f ≡ f
@@ -46,6 +47,15 @@ placed-again k w f h =
     ∙ append-assoc (take k f) (take w (drop k f)) (drop w (drop k f))
     ∙ ap (λ (l : List Float). take k f ++ l) (take-append-drop w (drop k f))
     ∙ take-append-drop k f
+
+-- a status, as the number that is told
+pub number-is : {R : Type 0} (a : Answer R) {s : Status} → s ≡ statusOf a → statusNumber s ≡ numberOf a
+number-is (refused j) e = ap statusNumber e
+number-is (answered r) e = ap statusNumber e
+
+-- where the state begins, as the code has it
+pub place : {n m i k : ℕ} → Whole n m i k → k - (n + n * n) ≡ statePlace n m i
+place W = omega (arith, W .long)
 
 -- f is the slice; N, M and I are the sizes as the code has them, and k where the state begins
 module _ (n m i : ℕ) (f : List Float) (W : Whole n m i (length f)) {N M I : Size} {k : ℕ} (en : N ≡ sizeOf n) (em : M ≡ sizeOf m) (ei : I ≡ sizeOf i) (ek : k ≡ statePlace n m i) where
@@ -111,10 +121,6 @@ module _ (n m i : ℕ) (f : List Float) (W : Whole n m i (length f)) {N M I : Si
 
   vector-given : {j : ℕ} (J : Size) (u : List Float) {v : List Float} → count J ≡ j → length u ≡ j → v ≡ padRow (vectorIn (count J) u 0) → cut (count J) v ≡ u
   vector-given {j} J u d l e = vector-used 0 u d (omega (arith, l)) e ∙ whole-vector j u l
-
-  number-is : {R : Type 0} (a : Answer R) {s : Status} → s ≡ statusOf a → statusNumber s ≡ numberOf a
-  number-is (refused j) e = ap statusNumber e
-  number-is (answered r) e = ap statusNumber e
 
   pub predicts : (u : List Float) {a b q l l′ : Rows} {v x x′ g : List Float} {s : Status} → length u ≡ i
       → a ≡ pad (matrixIn (count N) (count N) f 0)

@@ -9,9 +9,9 @@ use borrow.Author.Needs.{needs}
 use Rattle.answer.proofs.Choice.{and-left, and-right}
 use Rattle.c_copies.specs.Filter.{isRoad}
 use Rattle.c_filters.proofs.Roads.{Road, road-of, road-read, pair-put}
-use Rattle.c_sqrt_kalman.proofs.Roads.{updates, refuses}
-use Rattle.c_sqrt_kalman.proofs.sqrt_kalman_update.Statement.{statement}
-use Rattle.c_sqrt_kalman.proofs.sqrt_kalman_update.Tie as tie
+use Rattle.c_sqrt_steps.proofs.Roads.{updates, refuses}
+use Rattle.c_sqrt_steps.proofs.sqrt_kalman_update.Statement.{statement}
+use Rattle.c_sqrt_steps.proofs.sqrt_kalman_update.Tie as tie
 
 passed : (c : tie.Then1) → let a = c .before .before .before .before .before .before .args in
     isRoad (a .n) (a .m) (a .i) (length (a .filter .now)) (length (a .z .now)) && eqb (length (a .innovation .now)) 1 ≡ true

@@ -11,12 +11,14 @@ use borrow.Author.Tests.{eqb-true}
 use Rattle.answer.proofs.Choice.{and-left, and-right}
 use Rattle.answer.specs.Outcome.{if-fitting}
 use Rattle.filtering.specs.SquareRoot.{update}
-use Rattle.c_sqrt_kalman.specs.Root.{isStep, isStepWith, channelAt, factoredAt, outcomeIn}
+use Rattle.c_sqrt_kalman.specs.Root.{isStep, isStepWith, factoredAt}
+use Rattle.c_sqrt_steps.specs.Step.{channelAt, outcomeIn}
 use borrow.Author.Needs.{needs}
+use Rattle.c_copies.proofs.Filters.{Few}
 use Rattle.c_sqrt_kalman.proofs.Filters.{Step, step-of}
-use Rattle.c_sqrt_kalman.proofs.Steps.{updates, refuses}
-use Rattle.c_sqrt_kalman.proofs.update_rows.Statement.{statement}
-use Rattle.c_sqrt_kalman.proofs.update_rows.Tie as tie
+use Rattle.c_sqrt_steps.proofs.Steps.{place, updates, refuses}
+use Rattle.c_sqrt_steps.proofs.update_rows.Statement.{statement}
+use Rattle.c_sqrt_steps.proofs.update_rows.Tie as tie
 
 tested : (c : tie.After-both) → let a = c .before .before .before .before .before .args in
     c .both .result ≡ isStepWith (a .n) (a .m) (a .i) (length (a .filter .now)) (a .m) (length (a .z .now)) (a .m) (length (a .innovation .now))
@@ -31,6 +33,9 @@ passed c = sym (tested (c .before)) ∙ c .if1 .taken
 test : (c : tie.Then1) → let a = c .before .before .before .before .before .before .args in Step (a .n) (a .m) (a .i) (length (a .filter .now)) (a .m) (length (a .z .now))
 unfolding isStepWith
 test c = step-of _ _ _ _ _ _ (and-left _ _ (passed c))
+
+few : (c : tie.Then1) → let a = c .before .before .before .before .before .before .args in Few (a .n) (a .m) (a .i)
+few c = test c .whole .few
 
 room : (c : tie.Then1) → let a = c .before .before .before .before .before .before .args in length (a .innovation .now) ≡ a .m
 unfolding isStepWith
@@ -55,11 +60,10 @@ returns c =
     let h = r .before .before in
     let sm = h .before .before in
     let sn = sm .before in
-    let k = sn .before in
-    let t = k .before in
+    let t = sn .before in
     let g = t .before .before .before .before .before .before .args in
     let s = test t in
-    updates (g .n) (g .m) (g .i) (g .filter .now) (s .whole) (sn .size-of .ensures) (sm .size-of2 .ensures) refl (k .state-place .ensures .0) (g .z .now) (s .same)
+    updates (g .n) (g .m) (g .i) (g .filter .now) (s .whole) (sn .size-of .ensures) (sm .size-of2 .ensures) refl (place (s .whole)) (g .z .now) (s .same)
     (h .matrix-at .ensures) (r .vector-at .ensures) (v .vector-at2 .ensures) (x .vector-at3 .ensures) (l .matrix-at2 .ensures) (step .update .ensures) (put .put-pair .ensures) (g .innovation .now) (room t) (told .enum-told .given .1) (vec .put-vector .ensures)
     ∙ ap (by (g .n) (g .m) (g .i) (g .filter .now) (g .z .now) (g .innovation .now)) (sym (passed t))
 
@@ -75,11 +79,10 @@ returns-2 c =
     let h = r .before .before in
     let sm = h .before .before in
     let sn = sm .before in
-    let k = sn .before in
-    let t = k .before in
+    let t = sn .before in
     let g = t .before .before .before .before .before .before .args in
     let s = test t in
-    refuses (g .n) (g .m) (g .i) (g .filter .now) (s .whole) (sn .size-of .ensures) (sm .size-of2 .ensures) refl (k .state-place .ensures .0) (g .z .now) (s .same)
+    refuses (g .n) (g .m) (g .i) (g .filter .now) (s .whole) (sn .size-of .ensures) (sm .size-of2 .ensures) refl (place (s .whole)) (g .z .now) (s .same)
     (h .matrix-at .ensures) (r .vector-at .ensures) (v .vector-at2 .ensures) (x .vector-at3 .ensures) (l .matrix-at2 .ensures) (step .update .ensures) (put .put-pair .ensures) (g .innovation .now) (told .status .given .1)
     ∙ ap (by (g .n) (g .m) (g .i) (g .filter .now) (g .z .now) (g .innovation .now)) (sym (passed t))
 
@@ -91,11 +94,11 @@ returns-3 c =
 pub update-rows-spec : {M : Type 1} → statement M
 update-rows-spec =
     tie.close
-    (tie.spec (λ c κs. search needs) (λ c κs. search needs) (λ c κs. test c .whole .sizes)
-    (λ c κs. search needs) (λ c κs. search needs) (λ c. search needs) (λ c. search needs) (λ c. search needs)
-    (λ c κs. search needs) (λ c. search needs) (λ c. search needs) (λ c. search needs) (λ c. search needs)
-    (λ c. search needs) (λ c. search needs) (λ c. search needs) (λ c κs. search needs) (λ c κs. search needs)
-    (λ c κs. search needs)
-    (λ c. let k = c .before .before .before .before .before .before .before .before .before .before in omega (arith, test (k .before) .whole .few, k .state-place .ensures))
+    (tie.spec (λ c κs. search needs) (λ c κs. search needs) (λ c. omega (arith, few c)) (λ c. omega (arith, few c)) (λ c. omega (arith, test c .whole .long))
+    (λ c κs. search needs) (λ c κs. search needs) (λ c. omega (arith, few (c .before .before .before))) (λ c. omega (arith, few (c .before .before .before))) (λ c. omega (arith, few (c .before .before .before)))
+    (λ c κs. search needs) (λ c. omega (arith, few (c .before .before .before .before .before))) (λ c. omega (arith, few (c .before .before .before .before .before))) (λ c. omega (arith, few (c .before .before .before .before .before)))
+    (λ c. omega (arith, few (c .before .before .before .before .before))) (λ c. omega (arith, few (c .before .before .before .before .before))) (λ c. omega (arith, few (c .before .before .before .before .before))) (λ c. omega (arith, few (c .before .before .before .before .before)))
+    (λ c κs. search needs) (λ c κs. search needs) (λ c κs. search needs)
+    (λ c. let s = test (c .before .before .before .before .before .before .before .before .before .before) .whole in omega (arith, s .few, s .long))
     (λ c κs. search needs) (λ c κs. search needs) (λ c κs. search needs) (λ c. search needs) (λ c κs. search needs)
     (λ c. search needs) (λ c. search needs) (λ c. search needs) returns (λ c. search needs) returns-2 returns-3)

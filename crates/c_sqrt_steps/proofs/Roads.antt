@@ -32,9 +32,10 @@ use Rattle.sqrt_road.specs.Road.{factoredOf, channelOf, steppedOf, updatedOf}
 use Rattle.c_copies.specs.Filter.{roadIn, withEstimate, estimateAt, toldIn}
 use Rattle.c_filters.proofs.Roads.{one-place}
 use Rattle.c_filters.proofs.Roads as Linear
-use Rattle.c_sqrt_kalman.specs.Root.{isFilter, isStep, isStepWith, motionAt, channelAt, factoredAt, withFactored, steppedIn, predictIn, outcomeIn, updateIn}
-use Rattle.c_sqrt_kalman.proofs.Outcomes.{Tells, told-length, update-tells}
-use Rattle.c_sqrt_kalman.proofs.Steps.{placed-again}
+use Rattle.c_sqrt_kalman.specs.Root.{isFilter, isStep, isStepWith, factoredAt, withFactored, steppedIn}
+use Rattle.c_sqrt_steps.specs.Step.{motionAt, channelAt, predictIn, outcomeIn, updateIn}
+use Rattle.c_sqrt_steps.proofs.Outcomes.{Tells, told-length, update-tells}
+use Rattle.c_sqrt_steps.proofs.Steps.{number-is, placed-again}
 
 -- ---- what the filter of one road holds where a linear one has its estimate and its noise
 abbrev kept : Filter → Factored
@@ -64,10 +65,6 @@ put : (f : List Float) → length f ≡ 19 → (a : Left Factored) {v : Pair} {g
     → g ≡ standing (withFactored 2 1 1 f) f a
 put f l unchanged e p = p ∙ (λ t. withFactored 2 1 1 f (e t)) ∙ again f l
 put f l (this h) e p = p ∙ λ t. withFactored 2 1 1 f (e t)
-
-number-is : {R : Type 0} (a : Answer R) {s : Status} → s ≡ statusOf a → statusNumber s ≡ numberOf a
-number-is (refused j) e = ap statusNumber e
-number-is (answered r) e = ap statusNumber e
 
 -- ---- a prediction: r is the road as the code has it, and v what is told to be left
 pub predicts : {n m i : ℕ} (f u : List Float) (R : Linear.Road n m i (length f) (length u)) (r : Road) → roadOf r ≡ roadIn f → {s : Status} {v : Pair} {g : List Float} {k : ℕ}
