@@ -1,7 +1,6 @@
 -- A step on the rows that were read from a slice is the step on the slice, and what is put back is what it leaves. Assumes nothing.
 use mathlib.Core.Path.{_≡_, refl, sym, ap, subst, _∙_}
 use mathlib.Core.List.{List, [], _∷_, _++_}
-use mathlib.Core.Bool.{Bool, true, false}
 use Prim.Native.Nat.{ℕ, _+_, _-_, _*_}
 use native.Mathlib.Omega.{arith}
 use lib.ListN.{length}
@@ -9,63 +8,52 @@ use lib.Ieee.{Float}
 use Rattle.answer.specs.declared.Status.{Status}
 use Rattle.answer.specs.declared.Status.the-variants.{Done, Refused}
 use Rattle.answer.specs.Answer.{Answer, refused, answered, mapped}
-use Rattle.answer.specs.Outcome.{Outcome, unchanged, this, into, handed, _else-leave_then_}
+use Rattle.answer.specs.Outcome.{Outcome, into, handed}
 use Rattle.answer.specs.Told.{statusOf, given}
 use Rattle.algebra.specs.Matrix.{Vector, Matrix}
 use Rattle.algebra.specs.Array.{cut, used, padRow, pad}
-use Rattle.algebra.specs.Inverse.{inv}
-use Rattle.algebra.proofs.Inverses.{inv-shape}
 use Rattle.algebra.proofs.Matrices.{Shape}
 use Rattle.algebra.proofs.Arrays.{cut-padRow, used-pad}
 use Rattle.sizes.specs.declared.Size.{Size}
 use Rattle.matrix.specs.declared.MatrixResult.{MatrixResult}
 use Rattle.matrix.specs.declared.VectorResult.{VectorResult}
-use Rattle.sizes.specs.Size.{sizeOf, count, part, front}
+use Rattle.sizes.specs.Size.{sizeOf, count}
 use Rattle.matrix.specs.Result.{asMatrix, asVector}
-use Rattle.filtering.specs.Filter.{Motion, Sensor, Estimate, estimate, innovation}
-use Rattle.filtering.specs.Information.{Information, ofEstimate, covariance, state, predict, informed, update}
-use Rattle.filtering.proofs.Shapes.{length-innovation}
-use Rattle.layout.specs.Layout.{vectorIn, matrixIn, matrixAt, joined, placed, putAt, filterParts}
+use Rattle.filtering.specs.Filter.{estimate}
+use Rattle.filtering.specs.Information.{Information, ofEstimate, covariance, state}
+use Rattle.layout.specs.Layout.{vectorIn, matrixIn, matrixAt, joined, placed, putAt}
 use Rattle.layout.proofs.Parts.{fits-total}
 use Rattle.layout.proofs.Places.{placed-whole}
 use Rattle.layout.proofs.Rows.{length-rows, whole-vector}
-use Rattle.layout.proofs.Calls.{vector-used, matrix-used, matrix-put, part-read, vector-put}
-use Rattle.steps.specs.Step.{Rows, motionRows, estimateRows}
-use Rattle.information_steps.specs.Step.{informationRows, arraysOf, updateBy}
-use Rattle.information_steps.proofs.Ways.{Sized, Plain, plain, plain-estimate, plain-predict, shape-informed, length-informed, made-sizes, update-is, inverted, rejected}
-use Rattle.c_copies.specs.Filter.{estimatePlace, motionAt, sensorAt, estimateAt}
+use Rattle.layout.proofs.Calls.{vector-used, matrix-used, matrix-put, vector-put}
+use Rattle.steps.specs.Step.{Rows, estimateRows}
+use Rattle.information_steps.specs.Step.{informationRows, arraysOf}
+use Rattle.information_steps.proofs.Ways.{Sized, Plain, plain, made-sizes}
+use Rattle.c_copies.specs.Filter.{estimatePlace}
 use Rattle.c_copies.proofs.Filters.{Whole, Given, parts-given}
-use Rattle.c_copies.proofs.Steps.{isN, isM, motion-read, estimate-read, vector-given, put-back}
-use Rattle.c_information.specs.Information.{informationAt, withInformation, steppedIn, outcomeIn, ofEstimateAt}
+use Rattle.c_copies.proofs.Steps.{estimate-read, put-back}
+use Rattle.c_information.specs.Information.{informationAt, withInformation, steppedIn, ofEstimateAt}
 
 -- where a filter's last n + n² numbers begin
 pub place : (n m i : ℕ) (f : List Float) → Whole n m i (length f) → length f - (n + n * n) ≡ estimatePlace n m i
 place n m i f W = omega (arith, W .long)
 
+-- the slice f with Ω x and Ω of the arrays v and w put where it keeps them
+abbrev pub kept : ℕ → List Float → Size → List Float → Rows → List Float
+kept n f N v w = putAt (length f - (n + n * n)) (cut (count N) v ++ joined (used (count N) (count N) w)) f
+
 -- f is the slice; N and M are the sizes as the code has them
 module _ (n m i : ℕ) (f : List Float) (W : Whole n m i (length f)) {N M : Size} (en : N ≡ sizeOf n) (em : M ≡ sizeOf m) where
-  abbrev k : ℕ
-  k = length f - (n + n * n)
-
-  abbrev kept : List Float → Rows → List Float
-  kept v w = putAt k (cut (count N) v ++ joined (used (count N) (count N) w)) f
-
-  N-is : count N ≡ n
-  N-is = isN n m i f W en em refl (place n m i f W)
-
-  M-is : count M ≡ m
-  M-is = isM n m i f W en em refl (place n m i f W)
-
-  pub information-read : {w : Rows} {v : List Float} → v ≡ padRow (vectorIn (count N) f k) → w ≡ pad (matrixIn (count N) (count N) f (k + n)) → informationRows N w v ≡ informationAt n m i f
+  pub information-read : {w : Rows} {v : List Float} → v ≡ padRow (vectorIn (count N) f (length f - (n + n * n))) → w ≡ pad (matrixIn (count N) (count N) f (length f - (n + n * n) + n)) → informationRows N w v ≡ informationAt n m i f
   information-read ev ew = λ t. let e = estimate-read n m i f W en em refl (place n m i f W) ev ew t in record { matrix = e .covariance; vector = e .state }
 
-  put-information : (o : Information) {w : Rows} {v g : List Float} → Sized n o → (w, v) ≡ arraysOf o → g ≡ kept v w → g ≡ withInformation n m i f o
+  pub put-information : (o : Information) {w : Rows} {v g : List Float} → Sized n o → (w, v) ≡ arraysOf o → g ≡ kept n f N v w → g ≡ withInformation n m i f o
   put-information o s d q =
       put-back n m i f W en em refl (place n m i f W) {e = estimate (o .vector) (o .matrix)} (record { state = s .1; covariance = s .0 }) (λ t. d t .1) (λ t. d t .0) q
 
   -- ---- a step whose refusal changes nothing, by its status
   pub stepped : (w : Rows) (v : List Float) {o : Outcome Information (Unit {0})} {s : Status} {w′ : Rows} {v′ g : List Float} → Plain n o → (s, (w′, v′)) ≡ handed statusOf arraysOf (w, v) o → s ≡ Done
-      → g ≡ kept v′ w′ → (0, g) ≡ steppedIn n m i f o
+      → g ≡ kept n f N v′ w′ → (0, g) ≡ steppedIn n m i f o
   stepped w v (plain (refused j) l) e d q = let z : _≡_ {A = Status} Done (Refused j) = sym d ∙ (λ t. e t .0) in cc
   stepped w v (plain (answered o) l) e d q = λ t. (0, put-information o (l o refl) (λ t. e t .1) q t)
 
@@ -76,84 +64,6 @@ module _ (n m i : ℕ) (f : List Float) (W : Whole n m i (length f)) {N M : Size
       let same : j ≡ a = cc in
       λ t. (same t, f)
   stopped w v {j = j} (plain (answered o) l) e d = let z : _≡_ {A = Status} Done (Refused j) = (λ t. sym e t .0) ∙ d in cc
-
-  -- ---- an update: its noise, and by the inverted noise A
-  abbrev Y : Sensor Matrix
-  Y = sensorAt n m i f
-
-  abbrev O : Information
-  O = informationAt n m i f
-
-  noise : {r : Rows} → r ≡ pad (matrixIn (count M) (count M) f (n * n + n * i + m * n + n * n)) → inv (count M) (part M M r) ≡ inv m (Y .r)
-  noise er = λ t. inv (M-is t) (part-read (filterParts n m i) f 4 (omega (arith, W .long)) (omega arith) M-is M-is (omega arith) er t)
-
-  pub noise-inverted : {r : Rows} {w : MatrixResult} {rows : Rows} → r ≡ pad (matrixIn (count M) (count M) f (n * n + n * i + m * n + n * n)) → w ≡ asMatrix (inv (count M) (part M M r)) → w .status ≡ Done → rows ≡ w .rows
-      → inv m (Y .r) ≡ answered (part M M rows)
-  noise-inverted {r} er e s d = sym (noise er) ∙ inverted M r e s d
-
-  pub noise-rejected : {r : Rows} {w : MatrixResult} {j : ℕ} → r ≡ pad (matrixIn (count M) (count M) f (n * n + n * i + m * n + n * n)) → w ≡ asMatrix (inv (count M) (part M M r)) → w .status ≡ Refused j
-      → inv m (Y .r) ≡ refused j
-  noise-rejected {r} er e s = sym (noise er) ∙ rejected M r e s
-
-  by-noise : (z y : List Float) {a : Answer Matrix} → inv m (Y .r) ≡ a → outcomeIn n m i f y (update Y z O) ≡ outcomeIn n m i f y (a else-leave unchanged then updateBy Y z O)
-  by-noise z y q = ap (outcomeIn n m i f y) (update-is Y z O ∙ ap (λ (a : Answer Matrix). a else-leave unchanged then updateBy Y z O) q)
-
-  pub not-updated : (z y : List Float) {j : ℕ} → inv m (Y .r) ≡ refused j → (j, (f, y)) ≡ outcomeIn n m i f y (update Y z O)
-  not-updated z y q = sym (by-noise z y q)
-
-  -- what was read is the sensor, the measurement and the information
-  pub update-read : (z : List Float) (A : Matrix) {h w : Rows} {u v : List Float} → length z ≡ m → h ≡ pad (matrixIn (count M) (count N) f (n * n + n * i)) → u ≡ padRow (vectorIn (count M) z 0)
-      → v ≡ padRow (vectorIn (count N) f k) → w ≡ pad (matrixIn (count N) (count N) f (k + n))
-      → updateBy (record { n = count N; m = count M; h = part M N h; r = Y .r }) (front M u) (informationRows N w v) A ≡ updateBy Y z O A
-  update-read z A l eh eu ev ew =
-      λ t. updateBy (record { n = N-is t; m = M-is t; h = part-read (filterParts n m i) f 2 (omega (arith, W .long)) (omega arith) M-is N-is (omega arith) eh t; r = Y .r })
-      (vector-given n m i f W en em refl (place n m i f W) M z M-is l eu t) (information-read ev ew t) A
-
-  module _ (z y : List Float) (A : Matrix) (q : inv m (Y .r) ≡ answered A) (w : Rows) (v₀ : List Float) {r : VectorResult} {w′ : Rows} {v g : List Float} (e : (r, (w′, v)) ≡ handed asVector arraysOf (w, v₀) (updateBy Y z O A))
-      (p : g ≡ kept v w′) where
-    abbrev o′ : Information
-    o′ = informed n m (Y .h) A z O
-
-    left : g ≡ withInformation n m i f o′
-    left = put-information o′ (shape-informed n m (Y .h) A z O, length-informed n m (Y .h) A z O) (λ t. e t .1) p
-
-    abbrev of : Answer Vector → ℕ × (List Float × List Float)
-    of a = outcomeIn n m i f y (record { told = mapped (λ x. innovation m n (Y .h) x z) a; left = this o′ })
-
-    pub updates : {y′ : List Float} → length y ≡ m → r .status ≡ Done → y′ ≡ putAt 0 (cut (count M) (r .cells)) y → (0, (g, y′)) ≡ outcomeIn n m i f y (update Y z O)
-    updates {y′} ly d ey = go (state n o′) (λ t. e t .0) ∙ sym (by-noise z y q)
-      where
-        go : (a : Answer Vector) → r ≡ asVector (mapped (λ x. innovation m n (Y .h) x z) a) → (0, (g, y′)) ≡ of a
-        go (refused j) c = let z : _≡_ {A = Status} Done (Refused j) = sym d ∙ (λ t. c t .status) in cc
-        go (answered x) c =
-            let told = innovation m n (Y .h) x z in
-            let lt = length-innovation m n (Y .h) x z in
-            let there : y′ ≡ told =
-            vector-put 0 y (r .cells) M-is (omega (arith, ly)) ey
-            ∙ ap (λ (b : Vector). placed 0 b y) (ap (cut m) (λ t. c t .cells) ∙ cut-padRow m told lt)
-            ∙ placed-whole told y (lt ∙ sym ly) in
-            λ t. (0, (left t, there t))
-
-    pub refuses : {j : ℕ} → r .status ≡ Refused j → (j, (g, y)) ≡ outcomeIn n m i f y (update Y z O)
-    refuses {j} d = go (state n o′) (λ t. e t .0) ∙ sym (by-noise z y q)
-      where
-        go : (a : Answer Vector) → r ≡ asVector (mapped (λ x. innovation m n (Y .h) x z) a) → (j, (g, y)) ≡ of a
-        go (refused b) c =
-            let z : _≡_ {A = Status} (Refused j) (Refused b) = sym d ∙ (λ t. c t .status) in
-            let same : j ≡ b = cc in
-            λ t. (same t, (left t, y))
-        go (answered x) c = let z : _≡_ {A = Status} Done (Refused j) = (λ t. sym c t .status) ∙ d in cc
-
-  -- ---- a sensor's addition
-  pub fuses : (h w z : List Float) {a b w₀ w′ : Rows} {u v v′ g : List Float} → length h ≡ m * n → length w ≡ m * m → length z ≡ m
-      → a ≡ pad (matrixIn (count M) (count N) h 0) → b ≡ pad (matrixIn (count M) (count M) w 0) → u ≡ padRow (vectorIn (count M) z 0)
-      → v ≡ padRow (vectorIn (count N) f k) → w₀ ≡ pad (matrixIn (count N) (count N) f (k + n))
-      → (w′, v′) ≡ arraysOf (informed (count N) (count M) (part M N a) (part M M b) (front M u) (informationRows N w₀ v)) → g ≡ kept v′ w′
-      → g ≡ withInformation n m i f (informed n m (matrixAt m n h 0) (matrixAt m m w 0) z O)
-  fuses h w z lh lw lz ea eb eu ev ew e p =
-      put-information (informed n m (matrixAt m n h 0) (matrixAt m m w 0) z O) (shape-informed n m (matrixAt m n h 0) (matrixAt m m w 0) z O, length-informed n m (matrixAt m n h 0) (matrixAt m m w 0) z O)
-      (e
-      ∙ λ t. arraysOf (informed (N-is t) (M-is t) (matrix-used 0 h M-is N-is (omega (arith, lh)) ea t) (matrix-used 0 w M-is M-is (omega (arith, lw)) eb t) (vector-given n m i f W en em refl (place n m i f W) M z M-is lz eu t) (information-read ev ew t))) p
 
 -- ---- an estimate that is given by its numbers, and what is written of an answer into all of a slice y
 module _ (N : Size) {n : ℕ} (is : count N ≡ n) where
@@ -213,7 +123,7 @@ module _ {n m i : ℕ} {a b h q r x p : List Float} (f : List Float) (g : Given 
       whole : Whole n m i (length parts)
       whole = subst (Whole n m i) (sym same-length) (g .whole)
 
-      put : f₂ ≡ putAt (length parts - (n + n * n)) (cut (count N) v ++ joined (used (count N) (count N) w)) parts
+      put : f₂ ≡ kept n parts N v w
       put = e₂ ∙ λ t. putAt (sym same-length t - (n + n * n)) (cut (count N) v ++ joined (used (count N) (count N) w)) (e₁ t)
 
       go : (o : Answer Information) → ((l : Information) → o ≡ answered l → Sized n l) → (s, (w, v)) ≡ handed statusOf arraysOf (w₀, v₀) (into o) → (0, f₂) ≡ filled o

@@ -1,18 +1,15 @@
--- An information filter in one slice, laid out as a linear filter is, with Ω x and Ω where that has its state and covariance; and what each call tells and leaves. Definitions only.
+-- An information filter in one slice, laid out as a linear filter is, with Ω x and Ω where that has its state and covariance; and what each call but a step tells and leaves. Definitions only.
 use Prim.Native.Nat.{ℕ, _*_}
 use mathlib.Core.List.{List, [], _∷_}
-use mathlib.Core.Bool.{Bool, _&&_}
-use lib.Dec.{eqb}
 use lib.ListN.{length}
 use lib.Ieee.{Float}
-use Rattle.answer.specs.Answer.{Answer, mapped, where-sized, if-sized}
-use Rattle.answer.specs.Outcome.{Outcome, done, into, if-fitting, standing, handed}
+use Rattle.answer.specs.Answer.{Answer, mapped, if-sized}
+use Rattle.answer.specs.Outcome.{Outcome, into, if-fitting, handed}
 use Rattle.answer.specs.Told.{numberOf}
-use Rattle.algebra.specs.Matrix.{Vector}
 use Rattle.filtering.specs.Filter.{estimate}
-use Rattle.filtering.specs.Information.{Information, ofEstimate, covariance, state, predict, informed, update}
+use Rattle.filtering.specs.Information.{Information, ofEstimate, covariance, state}
 use Rattle.layout.specs.Layout.{matrixAt, joined}
-use Rattle.c_copies.specs.Filter.{isStep, isStepWith, isParts, motionAt, sensorAt, estimateAt, withEstimate, toldIn}
+use Rattle.c_copies.specs.Filter.{isStep, isStepWith, isParts, estimateAt, withEstimate}
 use Rattle.c_copies.specs.Filter as Linear
 
 -- ---- what the slice f keeps, and the slice with something else in its place; its model stays as it stands
@@ -22,31 +19,9 @@ informationAt n m i f = let e = estimateAt n m i f in record { matrix = e .covar
 abbrev pub withInformation : ℕ → ℕ → ℕ → List Float → Information → List Float
 withInformation n m i f o = withEstimate n m i f (estimate (o .vector) (o .matrix))
 
--- ---- the steps: 1 where a size does not fit, else the filter's own outcome; what is told is a number
+-- ---- what a step tells and leaves: 1 where a size does not fit, else the filter's own outcome; what is told is a number
 abbrev pub steppedIn : ℕ → ℕ → ℕ → List Float → Outcome Information (Unit {0}) → ℕ × List Float
 steppedIn n m i f o = handed numberOf (withInformation n m i f) f o
-
-abbrev pub predictIn : ℕ → ℕ → ℕ → List Float → List Float → ℕ × List Float
-predictIn n m i f u = steppedIn n m i f (if-fitting (isStep n m i (length f) i (length u)) (predict (motionAt n m i f) u (informationAt n m i f)))
-
--- the outcome of an update of f, with the innovation in a slice that held y
-abbrev pub outcomeIn : ℕ → ℕ → ℕ → List Float → List Float → Outcome Information Vector → ℕ × (List Float × List Float)
-outcomeIn n m i f y o = (numberOf (o .told), (standing (withInformation n m i f) f (o .left), toldIn y (o .told)))
-
-abbrev pub updateIn : ℕ → ℕ → ℕ → List Float → List Float → List Float → ℕ × (List Float × List Float)
-updateIn n m i f z y =
-    outcomeIn n m i f y (if-fitting (isStepWith n m i (length f) m (length z) m (length y)) (update (sensorAt n m i f) z (informationAt n m i f)))
-
--- a sensor h of its inverted noise w, which measured z: slices of these lengths, beside a filter of k numbers
-unfoldable pub isSensor : ℕ → ℕ → ℕ → ℕ → ℕ → ℕ → ℕ → Bool
-isSensor n m i k h w z = isStep n m i k m z && (eqb h (m * n) && eqb w (m * m))
-
-abbrev pub fusedAt : ℕ → ℕ → List Float → List Float → List Float → Information → Outcome Information (Unit {0})
-fusedAt n m h w z o = done tt (informed n m (matrixAt m n h 0) (matrixAt m m w 0) z o)
-
-abbrev pub fuseIn : ℕ → ℕ → ℕ → List Float → List Float → List Float → List Float → ℕ × List Float
-fuseIn n m i f h w z =
-    steppedIn n m i f (if-fitting (isSensor n m i (length f) (length h) (length w) (length z)) (fusedAt n m h w z (informationAt n m i f)))
 
 -- of the state x and the covariance p, by rows
 abbrev pub ofEstimateAt : ℕ → List Float → List Float → Answer Information

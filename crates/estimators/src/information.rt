@@ -3,7 +3,8 @@
 ghost use mathlib.Core.Path.{_≡_};
 ghost use lib.ListN.{length};
 ghost use Rattle.answer.specs.Told.{given};
-ghost use Rattle.c_information.specs.Information.{predictIn, updateIn, fuseIn, resetIn, fromInformationIn, newIn, stateIn, covarianceIn, vectorIn, matrixIn};
+ghost use Rattle.c_information.specs.Information.{resetIn, fromInformationIn, newIn, stateIn, covarianceIn, vectorIn, matrixIn};
+ghost use Rattle.c_information_steps.specs.Steps.{predictIn, updateIn, fuseIn};
 
 // One step on, with the input u of i numbers. Refused with 3, and nothing changes: inversion rejects omega, or the predicted
 // covariance.
@@ -17,7 +18,7 @@ pub extern "C" fn estimators_information_predict(
 ) -> u8
     ensures { λ t. ⌜ (t, now (filter .exit)) ≡ predictIn n m i (now (filter .entry)) (now (u .entry)) ⌝ }
 {
-    c_information::information_predict(n, m, i, filter, u)
+    c_information_steps::information_predict(n, m, i, filter, u)
 }
 
 // Updated by the measurement z of m numbers; the innovation is z less H times the state after. Refused with 3: inversion rejects
@@ -33,7 +34,7 @@ pub extern "C" fn estimators_information_update(
 ) -> u8
     ensures { λ t. ⌜ (t, (now (filter .exit), now (innovation .exit))) ≡ updateIn n m i (now (filter .entry)) (now (z .entry)) (now (innovation .entry)) ⌝ }
 {
-    c_information::information_update(n, m, i, filter, z, innovation)
+    c_information_steps::information_update(n, m, i, filter, z, innovation)
 }
 
 // One sensor's addition: h (m by n), its inverted noise r_inv (m by m), and what it measured, z (m).
@@ -49,7 +50,7 @@ pub extern "C" fn estimators_information_fuse_sensor(
 ) -> u8
     ensures { λ t. ⌜ (t, now (filter .exit)) ≡ fuseIn n m i (now (filter .entry)) (now (h .entry)) (now («r_inv» .entry)) (now (z .entry)) ⌝ }
 {
-    c_information::information_fuse_sensor(n, m, i, filter, h, r_inv, z)
+    c_information_steps::information_fuse_sensor(n, m, i, filter, h, r_inv, z)
 }
 
 // Another state x0 and covariance p0; the model stays. Refused with 3: inversion rejects p0.

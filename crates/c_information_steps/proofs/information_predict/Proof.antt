@@ -4,9 +4,9 @@ use mathlib.Core.Path.{_≡_, sym, _∙_}
 use lib.ListN.{length}
 use borrow.Author.Needs.{needs}
 use Rattle.c_filters.proofs.Roads.{Road, road-of, road-read, pair-put}
-use Rattle.c_information.proofs.Roads.{predicts, stops}
-use Rattle.c_information.proofs.information_predict.Statement.{statement}
-use Rattle.c_information.proofs.information_predict.Tie as tie
+use Rattle.c_information_steps.proofs.Roads.{predicts, stops}
+use Rattle.c_information_steps.proofs.information_predict.Statement.{statement}
+use Rattle.c_information_steps.proofs.information_predict.Tie as tie
 
 road : (c : tie.Then1) → let a = c .before .before .before .before .args in Road (a .n) (a .m) (a .i) (length (a .filter .now)) (length (a .u .now))
 road c = road-of _ _ _ _ _ (sym (c .before .is-road .ensures) ∙ c .if1 .taken)

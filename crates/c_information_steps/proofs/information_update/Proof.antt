@@ -11,9 +11,9 @@ use Rattle.matrix.proofs.Results.{answered-value, refused-number}
 use Rattle.small_inverse.specs.Two.{invNumber}
 use Rattle.c_copies.specs.Filter.{isRoad}
 use Rattle.c_filters.proofs.Roads.{Road, road-of, road-read, pair-put}
-use Rattle.c_information.proofs.Roads.{not-updated, updates, refuses}
-use Rattle.c_information.proofs.information_update.Statement.{statement}
-use Rattle.c_information.proofs.information_update.Tie as tie
+use Rattle.c_information_steps.proofs.Roads.{not-updated, updates, refuses}
+use Rattle.c_information_steps.proofs.information_update.Statement.{statement}
+use Rattle.c_information_steps.proofs.information_update.Tie as tie
 
 passed : (c : tie.Then1) → let a = c .before .before .before .before .before .before .args in
     isRoad (a .n) (a .m) (a .i) (length (a .filter .now)) (length (a .z .now)) && eqb (length (a .innovation .now)) 1 ≡ true

@@ -30,7 +30,8 @@ use Rattle.information_road.specs.Road.{informationOf, sensingOf, steppedOf, up
 use Rattle.c_copies.specs.Filter.{motionAt, sensorAt, roadIn, withEstimate}
 use Rattle.c_filters.proofs.Roads.{step-passed, with-passed, one-place}
 use Rattle.c_filters.proofs.Roads as Linear
-use Rattle.c_information.specs.Information.{informationAt, withInformation, steppedIn, predictIn, outcomeIn, updateIn}
+use Rattle.c_information.specs.Information.{informationAt, withInformation, steppedIn}
+use Rattle.c_information_steps.specs.Steps.{predictIn, outcomeIn, updateIn}
 
 -- what a filter keeps where a linear one has its estimate
 abbrev kept : Filter → Information

@@ -14,11 +14,11 @@ use Rattle.information_steps.proofs.Ways.{plain-predict}
 use Rattle.c_copies.specs.Filter.{motionAt}
 use Rattle.c_copies.proofs.Filters.{Step, step-of}
 use Rattle.c_copies.proofs.Steps.{isI, motion-read, vector-given}
 use Rattle.c_information.specs.Information.{informationAt, steppedIn}
 use Rattle.c_information.proofs.Calls.{place, information-read, stepped, stopped}
 use borrow.Author.Needs.{needs}
-use Rattle.c_information.proofs.predict_rows.Statement.{statement}
-use Rattle.c_information.proofs.predict_rows.Tie as tie
+use Rattle.c_information_steps.proofs.predict_rows.Statement.{statement}
+use Rattle.c_information_steps.proofs.predict_rows.Tie as tie
 
 test : (c : tie.Then1) → let a = c .before .before .before .before .args in Step (a .n) (a .m) (a .i) (length (a .filter .now)) (a .i) (length (a .u .now))
 test c = step-of _ _ _ _ _ _ (sym (c .before .is-step .ensures) ∙ c .if1 .taken)

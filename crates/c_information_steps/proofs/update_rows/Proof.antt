@@ -17,11 +17,12 @@ use Rattle.filtering.specs.Information.{update}
 use Rattle.information_steps.specs.Step.{arraysOf}
 use Rattle.c_copies.specs.Filter.{isStep, isStepWith, sensorAt}
 use Rattle.c_copies.proofs.Filters.{Step, step-of}
-use Rattle.c_information.specs.Information.{informationAt, outcomeIn}
-use Rattle.c_information.proofs.Calls.{noise-inverted, noise-rejected, update-read, updates, refuses, not-updated}
+use Rattle.c_information.specs.Information.{informationAt}
+use Rattle.c_information_steps.specs.Steps.{outcomeIn}
+use Rattle.c_information_steps.proofs.Updates.{noise-inverted, noise-rejected, update-read, updates, refuses, not-updated}
 use borrow.Author.Needs.{needs}
-use Rattle.c_information.proofs.update_rows.Statement.{statement}
-use Rattle.c_information.proofs.update_rows.Tie as tie
+use Rattle.c_information_steps.proofs.update_rows.Statement.{statement}
+use Rattle.c_information_steps.proofs.update_rows.Tie as tie
 
 tested : (c : tie.After-both) → let a = c .before .before .before .before .before .args in
     c .both .result ≡ isStepWith (a .n) (a .m) (a .i) (length (a .filter .now)) (a .m) (length (a .z .now)) (a .m) (length (a .innovation .now))

@@ -1,0 +1,2 @@
+mod Updates
+mod Roads

@@ -1,0 +1,36 @@
+-- The steps of an information filter in one slice: what each tells and leaves. Definitions only.
+use Prim.Native.Nat.{ℕ, _*_}
+use mathlib.Core.List.{List}
+use mathlib.Core.Bool.{Bool, _&&_}
+use lib.Dec.{eqb}
+use lib.ListN.{length}
+use lib.Ieee.{Float}
+use Rattle.answer.specs.Outcome.{Outcome, done, if-fitting, standing}
+use Rattle.answer.specs.Told.{numberOf}
+use Rattle.algebra.specs.Matrix.{Vector}
+use Rattle.filtering.specs.Information.{Information, predict, informed, update}
+use Rattle.layout.specs.Layout.{matrixAt}
+use Rattle.c_copies.specs.Filter.{isStep, isStepWith, motionAt, sensorAt, toldIn}
+use Rattle.c_information.specs.Information.{informationAt, withInformation, steppedIn}
+
+abbrev pub predictIn : ℕ → ℕ → ℕ → List Float → List Float → ℕ × List Float
+predictIn n m i f u = steppedIn n m i f (if-fitting (isStep n m i (length f) i (length u)) (predict (motionAt n m i f) u (informationAt n m i f)))
+
+-- the outcome of an update of f, with the innovation in a slice that held y
+abbrev pub outcomeIn : ℕ → ℕ → ℕ → List Float → List Float → Outcome Information Vector → ℕ × (List Float × List Float)
+outcomeIn n m i f y o = (numberOf (o .told), (standing (withInformation n m i f) f (o .left), toldIn y (o .told)))
+
+abbrev pub updateIn : ℕ → ℕ → ℕ → List Float → List Float → List Float → ℕ × (List Float × List Float)
+updateIn n m i f z y =
+    outcomeIn n m i f y (if-fitting (isStepWith n m i (length f) m (length z) m (length y)) (update (sensorAt n m i f) z (informationAt n m i f)))
+
+-- a sensor h of its inverted noise w, which measured z: slices of these lengths, beside a filter of k numbers
+unfoldable pub isSensor : ℕ → ℕ → ℕ → ℕ → ℕ → ℕ → ℕ → Bool
+isSensor n m i k h w z = isStep n m i k m z && (eqb h (m * n) && eqb w (m * m))
+
+abbrev pub fusedAt : ℕ → ℕ → List Float → List Float → List Float → Information → Outcome Information (Unit {0})
+fusedAt n m h w z o = done tt (informed n m (matrixAt m n h 0) (matrixAt m m w 0) z o)
+
+abbrev pub fuseIn : ℕ → ℕ → ℕ → List Float → List Float → List Float → List Float → ℕ × List Float
+fuseIn n m i f h w z =
+    steppedIn n m i f (if-fitting (isSensor n m i (length f) (length h) (length w) (length z)) (fusedAt n m h w z (informationAt n m i f)))
