@@ -1,2 +1,3 @@
 mod Updates
 mod Roads
+mod Fusions
