@@ -262,6 +262,8 @@ ESTIMATORS_TOLD estimators_imm_model_probability(uint64_t n, uint64_t m, uint64_
 /* Where xi and omega begin in a filter. */
 #define ESTIMATORS_INFORMATION_VECTOR(n, m, i) ESTIMATORS_FILTER_STATE(n, m, i)
 #define ESTIMATORS_INFORMATION_MATRIX(n, m, i) ESTIMATORS_FILTER_COVARIANCE(n, m, i)
+/* How many numbers a sensor takes in a list: h (m x n), its inverted noise (m x m), and what it measured (m). */
+#define ESTIMATORS_SENSOR(n, m) ((m) * (n) + (m) * (m) + (m))
 
 /* The filter of a model and an estimate: a, q and p0 are n x n, b is n x i, h is m x n, r is m x m, x0 is a vector (n).
  * Omega is p0 inverted, xi is omega times x0. Refused with 3: inversion rejects p0. */
@@ -288,6 +290,11 @@ ESTIMATORS_TOLD estimators_information_update(uint64_t n, uint64_t m, uint64_t i
 ESTIMATORS_TOLD estimators_information_fuse_sensor(uint64_t n, uint64_t m, uint64_t i,
     double *filter, uint64_t filter_len, const double *h, uint64_t h_len,
     const double *r_inv, uint64_t r_inv_len, const double *z, uint64_t z_len);
+/* The same for count sensors in one call, 0 or more, one after another: sensors is one slice of count times
+ * ESTIMATORS_SENSOR(n, m) numbers, of each sensor its h, its r_inv and its z. Refused with 1 also where that is not its
+ * length; then no sensor is added. */
+ESTIMATORS_TOLD estimators_information_fuse_sensors(uint64_t n, uint64_t m, uint64_t i,
+    double *filter, uint64_t filter_len, uint64_t count, const double *sensors, uint64_t sensors_len);
 /* The state x0 (n) and the covariance p0 (n x n) in place of the filter's. Refused with 3: inversion rejects p0. */
 ESTIMATORS_TOLD estimators_information_reset(uint64_t n, uint64_t m, uint64_t i, double *filter, uint64_t filter_len,
     const double *x0, uint64_t x0_len, const double *p0, uint64_t p0_len);

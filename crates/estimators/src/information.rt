@@ -4,7 +4,7 @@ ghost use mathlib.Core.Path.{_≡_};
 ghost use lib.ListN.{length};
 ghost use Rattle.answer.specs.Told.{given};
 ghost use Rattle.c_information.specs.Information.{resetIn, fromInformationIn, newIn, stateIn, covarianceIn, vectorIn, matrixIn};
-ghost use Rattle.c_information_steps.specs.Steps.{predictIn, updateIn, fuseIn};
+ghost use Rattle.c_information_steps.specs.Steps.{predictIn, updateIn, fuseIn, fuseAllIn};
 
 // One step on, with the input u of i numbers. Refused with 3, and nothing changes: inversion rejects omega, or the predicted
 // covariance.
@@ -51,6 +51,22 @@ pub extern "C" fn estimators_information_fuse_sensor(
     ensures { λ t. ⌜ (t, now (filter .exit)) ≡ fuseIn n m i (now (filter .entry)) (now (h .entry)) (now («r_inv» .entry)) (now (z .entry)) ⌝ }
 {
     c_information_steps::information_fuse_sensor(n, m, i, filter, h, r_inv, z)
+}
+
+// The additions of count sensors, 0 or more, one after another in the slice: of each its h (m by n), its inverted noise (m by m),
+// and what it measured (m).
+#[no_mangle]
+pub extern "C" fn estimators_information_fuse_sensors(
+    n: usize,
+    m: usize,
+    i: usize,
+    filter: &mut [f64],
+    count: usize,
+    sensors: &[f64],
+) -> u8
+    ensures { λ t. ⌜ (t, now (filter .exit)) ≡ fuseAllIn n m i (now (filter .entry)) count (now (sensors .entry)) ⌝ }
+{
+    c_information_steps::information_fuse_sensors(n, m, i, filter, count, sensors)
 }
 
 // Another state x0 and covariance p0; the model stays. Refused with 3: inversion rejects p0.
