@@ -19,7 +19,7 @@ use Rattle.sizes.specs.declared.Size.{Size}
 use Rattle.sizes.specs.Size.{count}
 use Rattle.filtering.specs.Filter.{estimate}
 use Rattle.filtering.specs.SquareRoot.{factored, ofEstimate, covariance}
-use Rattle.layout.specs.Layout.{vectorAt, matrixAt, vectorIn, matrixIn, joined, placed, putAt, total, offset, rootParts}
+use Rattle.layout.specs.Layout.{vectorAt, matrixAt, vectorIn, matrixIn, joined, placed, putAt, rootParts}
 use Rattle.layout.proofs.Places.{placed-whole}
 use Rattle.layout.proofs.Rows.{whole-vector, length-rows}
 use Rattle.layout.proofs.Calls.{vector-used, matrix-used, part-read, slice-put, pair-put}

@@ -1,9 +1,8 @@
 -- The sizes of what the square-root filter's steps tell and leave. Assumes nothing.
 use mathlib.Core.Path.{_≡_, refl, sym, ap, subst, _∙_}
-use mathlib.Core.List.{List, [], _∷_, _++_}
+use mathlib.Core.List.{[], _∷_, _++_}
 use Prim.Native.Nat.{ℕ, zero, suc, _+_}
 use native.Mathlib.Numerals.{add-one}
-use native.Mathlib.Omega.{arith}
 use lib.ListN.{length, length-append}
 use Rattle.answer.specs.Answer.{Answer, refused, answered, mapped}
 use Rattle.answer.specs.Outcome.{Outcome, Left, unchanged, this, final, done, later, onward, _else-leave_then_}

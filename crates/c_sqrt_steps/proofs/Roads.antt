@@ -1,5 +1,5 @@
 -- One road in a slice of 19 numbers: a step by its numbers is the step on the slice. Assumes nothing.
-use mathlib.Core.Path.{_≡_, refl, sym, ap, ap₂, _∙_}
+use mathlib.Core.Path.{_≡_, sym, ap, ap₂, _∙_}
 use mathlib.Core.List.{List, [], _∷_, _++_}
 use mathlib.Core.Bool.{Bool, true, _&&_}
 use Prim.Native.Nat.{ℕ, _+_, _*_}
@@ -11,9 +11,9 @@ use borrow.Author.Tests.{eq-eqb}
 use Rattle.answer.specs.declared.Status.{Status}
 use Rattle.answer.specs.Answer.{Answer, refused, answered}
 use Rattle.answer.specs.Outcome.{Outcome, Left, unchanged, this, if-fitting, standing}
-use Rattle.answer.specs.Told.{numberOf, statusOf, statusNumber}
+use Rattle.answer.specs.Told.{numberOf, statusNumber}
 use Rattle.answer.proofs.Answers.{differ}
-use Rattle.algebra.specs.Matrix.{Vector, Matrix, at, row}
+use Rattle.algebra.specs.Matrix.{Vector, at, row}
 use Rattle.algebra.proofs.Matrices.{shape-mat}
 use Rattle.sizes.specs.Size.{sized}
 use Rattle.matrix.specs.declared.ScalarResult.{ScalarResult}
@@ -29,7 +29,7 @@ use Rattle.road.specs.declared.Pair.{Pair}
 use Rattle.road.specs.declared.Road.{Road}
 use Rattle.road.specs.Road.{Filter, estimateOf, roadOf}
 use Rattle.sqrt_road.specs.Road.{factoredOf, channelOf, steppedOf, updatedOf}
-use Rattle.c_copies.specs.Filter.{roadIn, withEstimate, estimateAt, toldIn}
+use Rattle.c_copies.specs.Filter.{roadIn, withEstimate, toldIn}
 use Rattle.c_filters.proofs.Roads.{one-place}
 use Rattle.c_filters.proofs.Roads as Linear
 use Rattle.c_sqrt_kalman.specs.Root.{isFilter, isStep, isStepWith, factoredAt, withFactored, steppedIn}

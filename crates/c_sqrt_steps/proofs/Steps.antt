@@ -1,7 +1,6 @@
 -- A step on the rows that were read from a slice is the step on the slice, and what is put back is what it leaves. Assumes nothing.
 use mathlib.Core.Path.{_≡_, refl, sym, ap, ap₂, _∙_}
 use mathlib.Core.List.{List, _++_, append-assoc}
-use mathlib.Core.Bool.{true}
 use Prim.Native.Nat.{ℕ, _+_, _-_, _*_, _≤_}
 use native.Mathlib.Omega.{arith}
 use lib.ListN.{length, take, drop, length-take, length-drop, take-append-drop}
@@ -10,11 +9,11 @@ use lib.Ieee.{Float}
 use Rattle.answer.specs.declared.Status.{Status}
 use Rattle.answer.specs.declared.Status.the-variants.{Done, Refused}
 use Rattle.answer.specs.Answer.{Answer, refused, answered}
-use Rattle.answer.specs.Outcome.{Outcome, Left, unchanged, this, standing, handed}
+use Rattle.answer.specs.Outcome.{Outcome, Left, standing, handed}
 use Rattle.answer.specs.Told.{statusOf, statusNumber, numberOf}
 use Rattle.algebra.specs.Matrix.{Vector, Matrix}
 use Rattle.algebra.specs.Array.{cut, used, padRow, pad}
-use Rattle.algebra.proofs.Matrices.{Shape, shape-mat}
+use Rattle.algebra.proofs.Matrices.{shape-mat}
 use Rattle.algebra.proofs.Arrays.{cut-padRow, used-pad}
 use Rattle.sizes.specs.declared.Size.{Size}
 use Rattle.matrix.specs.declared.VectorResult.{VectorResult}
@@ -30,7 +29,6 @@ use Rattle.layout.proofs.Calls.{vector-used, part-read, pair-put, vector-put}
 use Rattle.steps.specs.Step.{Rows, motionRows}
 use Rattle.steps.proofs.Sizes as Sizes
 use Rattle.sqrt_steps.specs.Step.{channelRows, factoredRows, arraysOf}
-use Rattle.sqrt_steps.proofs.Components.{Sized}
 use Rattle.c_copies.specs.Filter.{toldIn}
 use Rattle.c_sqrt_kalman.specs.Root.{statePlace, factoredAt, withFactored, steppedIn}
 use Rattle.c_sqrt_steps.specs.Step.{motionAt, channelAt, outcomeIn}

@@ -1,10 +1,10 @@
 -- `is_parts` meets its contract: the filter, and each part.
 use native.Mathlib.Omega.{arith}
 use mathlib.Core.Path.{_≡_, sym, _∙_}
-use mathlib.Core.Bool.{Bool, _&&_}
+use mathlib.Core.Bool.{_&&_}
 use lib.Dec.{eqb}
 use Prim.Native.Nat.{_*_}
-use Rattle.c_sqrt_kalman.specs.Root.{isFilter, isParts}
+use Rattle.c_sqrt_kalman.specs.Root.{isParts}
 use borrow.Author.Needs.{needs}
 use Rattle.c_copies.proofs.Filters.{Few, and-tested, and-failed}
 use Rattle.c_sqrt_kalman.proofs.Filters.{whole-of}

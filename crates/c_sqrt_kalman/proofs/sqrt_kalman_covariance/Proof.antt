@@ -1,16 +1,16 @@
 -- `sqrt_kalman_covariance` meets its contract: the factor times itself transposed.
 use native.Mathlib.Omega.{arith}
-use mathlib.Core.Path.{_≡_, refl, sym, ap, _∙_}
+use mathlib.Core.Path.{refl, sym, ap, _∙_}
 use mathlib.Core.Bool.{Bool}
 use mathlib.Core.List.{List}
-use Prim.Native.Nat.{ℕ, _+_, _*_}
+use Prim.Native.Nat.{ℕ, _*_}
 use lib.Dec.{eqb}
-use lib.ListN.{length, take, drop}
+use lib.ListN.{length}
 use lib.Ieee.{Float}
 use borrow.Author.Tests.{eq-eqb, ne-eqb}
 use Rattle.answer.specs.Told.{given}
 use Rattle.answer.specs.Answer.{where-sized}
-use Rattle.c_sqrt_kalman.specs.Root.{statePlace, factoredAt, isFilter, isStep}
+use Rattle.c_sqrt_kalman.specs.Root.{factoredAt, isFilter, isStep}
 use borrow.Author.Needs.{needs}
 use Rattle.sizes.proofs.Sizes.{is-count}
 use Rattle.layout.specs.Layout.{joined}

@@ -1,7 +1,7 @@
 -- `sqrt_kalman_reset` meets its contract: by the test of the slices, and what Cholesky answers.
 use native.Mathlib.Omega.{arith}
 use mathlib.Core.Path.{_≡_, refl, sym, ap, _∙_}
-use mathlib.Core.Bool.{Bool, true, false, _&&_}
+use mathlib.Core.Bool.{Bool, true}
 use mathlib.Core.List.{List}
 use lib.Ieee.{Float}
 use Prim.Native.Nat.{ℕ, _*_}

@@ -1,6 +1,6 @@
 -- `predict_rows` meets its contract: by the test of the slice.
 use native.Mathlib.Omega.{arith}
-use mathlib.Core.Path.{_≡_, refl, sym, ap, _∙_}
+use mathlib.Core.Path.{refl, sym, ap, _∙_}
 use mathlib.Core.Bool.{Bool}
 use Prim.Native.Nat.{ℕ}
 use mathlib.Core.List.{List}
