@@ -9,6 +9,7 @@ ghost use Rattle.scalar.specs.Number.{+0};
 ghost use Rattle.answer.specs.Told.{given};
 ghost use Rattle.road.specs.Road.{roadOf, estimateOf, trackerOf};
 ghost use Rattle.layout.specs.Layout.{putAt};
+ghost use Rattle.c_filters.specs.Plane.{isPlane};
 ghost use Rattle.c_copies.specs.Filter.{isRoad, roadIn, estimateNumbers, predictIn, updateIn, filterNumbers, trackerIn};
 use answer::Status;
 use c_copies::is_step;
@@ -16,6 +17,7 @@ use matrix::ScalarResult;
 use road::Pair;
 use road::Road;
 use road::Two;
+use sizes::Size;
 use sizes::both;
 use sizes::size_of;
 
@@ -86,6 +88,65 @@ fn update_rows(
                 layout::put_pair(filter, from, x, &p, sn);
                 let y = answer.cells;
                 layout::put_vector(innovation, 0, y, sm);
+                0
+            }
+            Status::Refused(number) => number,
+        }
+    } else {
+        1
+    }
+}
+
+// ---- east and north: four states, two measurements and two inputs, 72 numbers. With sizes and places at hand, the compiler reads each
+// matrix where it stands.
+
+// The sizes of a plane.
+pub fn is_plane(n: usize, m: usize, i: usize) -> bool
+    ensures { λ t. ⌜ t ≡ isPlane n m i ⌝ }
+{
+    both(n == 4, both(m == 2, i == 2))
+}
+
+// One step on, with the input u of two numbers.
+fn predict_plane(filter: &mut [f64], u: &[f64]) -> u8
+    ensures { λ t. ⌜ (t, now (filter .exit)) ≡ predictIn 4 2 2 (now (filter .entry)) (now (u .entry)) ⌝ }
+{
+    if is_step(4, 2, 2, filter.len(), 2, u.len()) {
+        let a = layout::matrix_at(filter, 0, Size::Four, Size::Four);
+        let b = layout::matrix_at(filter, 16, Size::Four, Size::Two);
+        let q = layout::matrix_at(filter, 32, Size::Four, Size::Four);
+        let v = layout::vector_at(u, 0, Size::Two);
+        let mut x = layout::vector_at(filter, 52, Size::Four);
+        let mut p = layout::matrix_at(filter, 56, Size::Four, Size::Four);
+        steps::predict(&a, &b, &q, &v, Size::Four, Size::Two, &mut x, &mut p);
+        layout::put_pair(filter, 52, x, &p, Size::Four);
+        0
+    } else {
+        1
+    }
+}
+
+// Corrected by the measurement z of two numbers.
+fn update_plane(filter: &mut [f64], z: &[f64], innovation: &mut [f64]) -> u8
+    ensures { λ t. ⌜
+        (t, (now (filter .exit), now (innovation .exit))) ≡ updateIn 4 2 2 (now (filter .entry)) (now (z .entry)) (now (innovation .entry)) ⌝ }
+{
+    if both(
+        is_step(4, 2, 2, filter.len(), 2, z.len()),
+        innovation.len() == 2,
+    ) {
+        let h = layout::matrix_at(filter, 24, Size::Two, Size::Four);
+        let r = layout::matrix_at(filter, 48, Size::Two, Size::Two);
+        let v = layout::vector_at(z, 0, Size::Two);
+        let mut x = layout::vector_at(filter, 52, Size::Four);
+        let mut p = layout::matrix_at(filter, 56, Size::Four, Size::Four);
+        let answer = steps::four::update(&h, &r, &v, &mut x, &mut p);
+        let status = answer.status;
+        match status {
+            Status::Done => {
+                layout::put_pair(filter, 52, x, &p, Size::Four);
+                let y = answer.cells;
+                layout::put_vector(innovation, 0, y, Size::Two);
                 0
             }
             Status::Refused(number) => number,
@@ -176,6 +237,9 @@ pub fn kalman_predict(n: usize, m: usize, i: usize, filter: &mut [f64], u: &[f64
         put_road(filter, e);
         return 0;
     }
+    if is_plane(n, m, i) {
+        return predict_plane(filter, u);
+    }
     predict_rows(n, m, i, filter, u)
 }
 
@@ -210,6 +274,9 @@ pub fn kalman_update(
                 return number;
             }
         }
+    }
+    if is_plane(n, m, i) {
+        return update_plane(filter, z, innovation);
     }
     update_rows(n, m, i, filter, z, innovation)
 }

@@ -177,8 +177,11 @@ pub fn component<'a>(
 pub fn covariance(l: &[[f64; 4]; 4], n: Size) -> [[f64; 4]; 4]
     ensures { λ p. ⌜ p ≡ pad (covarianceOf (count n) (factoredRows n [] (now (l .entry)))) ⌝ }
 {
-    let t = rows::transposed(l, n, n);
-    kernel::product(l, &t, n, n, n)
+    let r0 = rows::row_product_transposed(l[0], l, n);
+    let r1 = rows::row_product_transposed(l[1], l, n);
+    let r2 = rows::row_product_transposed(l[2], l, n);
+    let r3 = rows::row_product_transposed(l[3], l, n);
+    rows::leading_rows(r0, r1, r2, r3, n, n)
 }
 
 // x and l one step on, with the input u. Refused with 4: the new covariance has no factor; x is then the new state, and l

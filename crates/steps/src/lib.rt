@@ -13,6 +13,8 @@ use sizes::Size;
 use sizes::both;
 use sizes::number;
 
+pub mod four;
+
 // ---- the sizes of a filter, tested by one bool
 
 // All sizes are 1 to 4.
@@ -71,9 +73,6 @@ pub fn propagated<'a>(
         if rows == 4 {
             return four_states::propagated(a, p, q);
         }
-        if rows == 2 {
-            return four_states::propagated_two(a, p, q);
-        }
     }
     let mut out = [[0.0; 4]; 4];
     for i in 0..rows {
@@ -114,11 +113,6 @@ pub fn gain<'a>(
     ensures { λ v. ⌜ v ≡ pad (gainOf (count n) (count m) (part n n (now (p .entry))) (part m n (now (h .entry))) (part m m (now (w .entry)))) ⌝ }
 {
     let rows = number(n);
-    if rows == 4 {
-        if number(m) == 2 {
-            return four_states::gain(p, h, w);
-        }
-    }
     let mut out = [[0.0; 4]; 4];
     for i in 0..rows {
         let pht = rows::row_product_transposed(p[i], h, n);
@@ -159,11 +153,6 @@ pub fn corrected_covariance<'a>(
         v ≡ pad (correctedCovariance (count n) (count m) (part n m (now (k .entry))) (part m n (now (h .entry))) (part n n (now (p .entry)))) ⌝ }
 {
     let rows = number(n);
-    if rows == 4 {
-        if number(m) == 2 {
-            return four_states::corrected_covariance(k, h, p);
-        }
-    }
     let e = kernel::identity_rows();
     let mut out = [[0.0; 4]; 4];
     for i in 0..rows {
@@ -210,6 +199,11 @@ pub fn update<'a>(
         (v, (now (x .exit), now (p .exit)))
         ≡ updateRows n m (now (h .entry)) (now (r .entry)) (now (z .entry)) (now (x .entry)) (now (p .entry)) ⌝ }
 {
+    if number(n) == 4 {
+        if number(m) == 2 {
+            return four::update(h, r, z, x, p);
+        }
+    }
     let s = propagated(h, p, r, m, n);
     let w = inverse::inverse_of(&s, m);
     let status = w.status;

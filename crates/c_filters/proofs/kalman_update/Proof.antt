@@ -1,4 +1,4 @@
--- `kalman_update` meets its contract: one road by its numbers, and else rows.
+-- `kalman_update` meets its contract: one road by its numbers, a plane with its sizes at hand, and else rows.
 use native.Mathlib.Omega.{arith}
 use mathlib.Core.Path.{_≡_, sym, ap, _∙_}
 use mathlib.Core.Bool.{Bool, true, _&&_}
@@ -8,9 +8,10 @@ use borrow.Author.Tests.{eqb-true}
 use Rattle.answer.proofs.Choice.{and-left, and-right}
 use Rattle.road.specs.Road.{estimateOf}
 use Rattle.road.proofs.Roads.{corrected-by}
-use Rattle.c_copies.specs.Filter.{isRoad}
+use Rattle.c_copies.specs.Filter.{isRoad, updateIn}
 use borrow.Author.Needs.{needs}
 use Rattle.c_filters.proofs.Roads.{Road, road-of, road-read, pair-put, updates, refuses}
+use Rattle.c_filters.proofs.Planes.{plane-of}
 use Rattle.c_filters.proofs.kalman_update.Statement.{statement}
 use Rattle.c_filters.proofs.kalman_update.Tie as tie
 
@@ -50,6 +51,14 @@ returns-2 c =
     let a = t .before .before .before .before .before .before .args in
     refuses (a .filter .now) (a .z .now) (a .innovation .now) (road t) (room t) (road-read (a .filter .now) (road t .long) (f .road-at .ensures)) (step .innovation .ensures) (told .answer2 .given .1)
 
+returns-3 : tie.Need-returns-3
+returns-3 c =
+    let step = c .before .before .before .before in
+    let t = step .before .before .before in
+    let a = t .before .before .before .before .before .before .before .before .args in
+    let p = plane-of (a .n) (a .m) (a .i) (sym (t .before .is-plane .ensures) ∙ t .if2 .taken) in
+    step .update-plane .ensures ∙ λ k. updateIn (p .states k) (p .measurements k) (p .inputs k) (a .filter .now) (a .z .now) (a .innovation .now)
+
 pub kalman-update-spec : {M : Type 1} → statement M
 kalman-update-spec =
     tie.close
@@ -58,4 +67,5 @@ kalman-update-spec =
     (λ c κs. search needs)
     (λ c. omega (arith, room (c .before .before .before .before .before .before .before .before .before .before .before .before)))
     (λ c. search needs) (λ c. search needs) returns (λ c. search needs) (λ c. search needs) returns-2
+    (λ c κs. search needs) (λ c κs. search needs) (λ c. search needs) (λ c. search needs) returns-3
     (λ c κs. search needs) (λ c. search needs) (λ c. search needs) (λ c. search needs))

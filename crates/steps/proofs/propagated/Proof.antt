@@ -46,19 +46,11 @@ returns c =
     c .propagated .ensures ∙ λ k. pad (propagated (r k) (s k) (used (r k) (s k) (x .a .now)) (used (s k) (s k) (x .p .now)) (used (r k) (r k) (x .q .now)))
 
 returns-2 : tie.Need-returns-2 Inv-loop μ-loop
-returns-2 c =
-    let n = c .before .before .before .before in
-    let x = n .before .before .args in
-    let r : 2 ≡ count (x .r) = sym (c .before .if3 .taken) ∙ n .before .number .ensures in
-    let s : 4 ≡ count (x .n) = sym (c .before .before .before .if1 .taken) ∙ n .number2 .ensures in
-    c .propagated-two .ensures ∙ λ k. pad (propagated (r k) (s k) (used (r k) (s k) (x .a .now)) (used (s k) (s k) (x .p .now)) (used (r k) (r k) (x .q .now)))
-
-returns-3 : tie.Need-returns-3 Inv-loop μ-loop
-returns-3 c = let v = c .before .loop .inv in rows-all (v .1) (omega (arith, v .0 .0)) (rows-are (shape-propagated _ _ _ _ _))
+returns-2 c = let v = c .before .loop .inv in rows-all (v .1) (omega (arith, v .0 .0)) (rows-are (shape-propagated _ _ _ _ _))
 
 pub propagated-spec : {M : Type 1} → statement M
 propagated-spec =
     tie.close
-    (tie.spec Inv-loop μ-loop (λ c κs. tt) (λ c κs. tt) (λ c κs. tt) returns (λ c κs. tt) returns-2 loop-holds
+    (tie.spec Inv-loop μ-loop (λ c κs. tt) (λ c κs. tt) (λ c κs. tt) returns loop-holds
     (λ c. omega arith) (λ c. omega arith) (λ c κs. tt) (λ c κs. tt) (λ c. omega arith) (λ c. omega arith) (λ c κs. tt)
-    (λ c κs. tt) (λ c. omega arith) (λ c. omega arith) (λ c. omega arith) (λ c. omega arith) loop-again returns-3)
+    (λ c κs. tt) (λ c. omega arith) (λ c. omega arith) (λ c. omega arith) (λ c. omega arith) loop-again returns-2)
