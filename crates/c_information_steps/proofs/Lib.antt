@@ -1,3 +1,2 @@
 mod Updates
 mod Roads
-mod Fusions

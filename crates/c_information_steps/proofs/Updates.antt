@@ -1,4 +1,4 @@
--- An update, and a sensor's addition, on the rows that were read from a slice are those on the slice, and what is put back is what they leave. Assumes nothing.
+-- An update on the rows that were read from a slice is that on the slice, and what is put back is what it leaves. Assumes nothing.
 use mathlib.Core.Path.{_≡_, refl, sym, ap, _∙_}
 use mathlib.Core.List.{List}
 use Prim.Native.Nat.{ℕ, _+_, _-_, _*_}
@@ -21,9 +21,9 @@ use Rattle.matrix.specs.Result.{asMatrix, asVector}
 use Rattle.filtering.specs.Filter.{Sensor, innovation}
 use Rattle.filtering.specs.Information.{Information, state, informed, update}
 use Rattle.filtering.proofs.Shapes.{length-innovation}
-use Rattle.layout.specs.Layout.{vectorIn, matrixIn, matrixAt, placed, putAt, filterParts}
+use Rattle.layout.specs.Layout.{vectorIn, matrixIn, placed, putAt, filterParts}
 use Rattle.layout.proofs.Places.{placed-whole}
-use Rattle.layout.proofs.Calls.{matrix-used, part-read, vector-put}
+use Rattle.layout.proofs.Calls.{part-read, vector-put}
 use Rattle.steps.specs.Step.{Rows}
 use Rattle.information_steps.specs.Step.{informationRows, arraysOf, updateBy}
 use Rattle.information_steps.proofs.Ways.{shape-informed, length-informed, update-is, inverted, rejected}
@@ -111,14 +111,3 @@ module _ (n m i : ℕ) (f : List Float) (W : Whole n m i (length f)) {N M : Size
             let same : j ≡ b = cc in
             λ t. (same t, (left t, y))
         go (answered x) c = let z : _≡_ {A = Status} Done (Refused j) = (λ t. sym c t .status) ∙ d in cc
-
-  -- ---- a sensor's addition
-  pub fuses : (h w z : List Float) {a b w₀ w′ : Rows} {u v v′ g : List Float} → length h ≡ m * n → length w ≡ m * m → length z ≡ m
-      → a ≡ pad (matrixIn (count M) (count N) h 0) → b ≡ pad (matrixIn (count M) (count M) w 0) → u ≡ padRow (vectorIn (count M) z 0)
-      → v ≡ padRow (vectorIn (count N) f k) → w₀ ≡ pad (matrixIn (count N) (count N) f (k + n))
-      → (w′, v′) ≡ arraysOf (informed (count N) (count M) (part M N a) (part M M b) (front M u) (informationRows N w₀ v)) → g ≡ kept n f N v′ w′
-      → g ≡ withInformation n m i f (informed n m (matrixAt m n h 0) (matrixAt m m w 0) z O)
-  fuses h w z lh lw lz ea eb eu ev ew e p =
-      put-information n m i f W en em (informed n m (matrixAt m n h 0) (matrixAt m m w 0) z O) (shape-informed n m (matrixAt m n h 0) (matrixAt m m w 0) z O, length-informed n m (matrixAt m n h 0) (matrixAt m m w 0) z O)
-      (e
-      ∙ λ t. arraysOf (informed (N-is t) (M-is t) (matrix-used 0 h M-is N-is (omega (arith, lh)) ea t) (matrix-used 0 w M-is M-is (omega (arith, lw)) eb t) (vector-given n m i f W en em refl (place n m i f W) M z M-is lz eu t) (information-read n m i f W en em ev ew t))) p

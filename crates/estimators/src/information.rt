@@ -4,7 +4,8 @@ ghost use mathlib.Core.Path.{_≡_};
 ghost use lib.ListN.{length};
 ghost use Rattle.answer.specs.Told.{given};
 ghost use Rattle.c_information.specs.Information.{resetIn, fromInformationIn, newIn, stateIn, covarianceIn, vectorIn, matrixIn};
-ghost use Rattle.c_information_steps.specs.Steps.{predictIn, updateIn, fuseIn, fuseAllIn};
+ghost use Rattle.c_information_steps.specs.Steps.{predictIn, updateIn};
+ghost use Rattle.c_fusion.specs.Fusion.{fuseIn, fuseAllIn};
 
 // One step on, with the input u of i numbers. Refused with 3, and nothing changes: inversion rejects omega, or the predicted
 // covariance.
@@ -50,7 +51,7 @@ pub extern "C" fn estimators_information_fuse_sensor(
 ) -> u8
     ensures { λ t. ⌜ (t, now (filter .exit)) ≡ fuseIn n m i (now (filter .entry)) (now (h .entry)) (now («r_inv» .entry)) (now (z .entry)) ⌝ }
 {
-    c_information_steps::information_fuse_sensor(n, m, i, filter, h, r_inv, z)
+    c_fusion::information_fuse_sensor(n, m, i, filter, h, r_inv, z)
 }
 
 // The additions of count sensors, 0 or more, one after another in the slice: of each its h (m by n), its inverted noise (m by m),
@@ -66,7 +67,7 @@ pub extern "C" fn estimators_information_fuse_sensors(
 ) -> u8
     ensures { λ t. ⌜ (t, now (filter .exit)) ≡ fuseAllIn n m i (now (filter .entry)) count (now (sensors .entry)) ⌝ }
 {
-    c_information_steps::information_fuse_sensors(n, m, i, filter, count, sensors)
+    c_fusion::information_fuse_sensors(n, m, i, filter, count, sensors)
 }
 
 // Another state x0 and covariance p0; the model stays. Refused with 3: inversion rejects p0.

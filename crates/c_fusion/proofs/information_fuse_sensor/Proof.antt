@@ -14,11 +14,11 @@ use Rattle.answer.proofs.Choice.{and-left, and-right}
 use Rattle.c_copies.specs.Filter.{isStep}
 use Rattle.c_copies.proofs.Filters.{Step, step-of}
 use Rattle.c_information.specs.Information.{informationAt, steppedIn}
-use Rattle.c_information_steps.specs.Steps.{isSensor, fusedAt}
-use Rattle.c_information_steps.proofs.Updates.{fuses}
+use Rattle.c_fusion.specs.Fusion.{isSensor, fusedAt}
+use Rattle.c_fusion.proofs.Sensors.{fuses}
 use borrow.Author.Needs.{needs}
-use Rattle.c_information_steps.proofs.information_fuse_sensor.Statement.{statement}
-use Rattle.c_information_steps.proofs.information_fuse_sensor.Tie as tie
+use Rattle.c_fusion.proofs.information_fuse_sensor.Statement.{statement}
+use Rattle.c_fusion.proofs.information_fuse_sensor.Tie as tie
 
 passed : (c : tie.Then1) → let a = c .before .before .before .before .before .before .args in isSensor (a .n) (a .m) (a .i) (length (a .filter .now)) (length (a .h .now)) (length (a .r-inv .now)) (length (a .z .now)) ≡ true
 passed c = sym (c .before .is-sensor .ensures) ∙ c .if1 .taken

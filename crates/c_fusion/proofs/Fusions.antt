@@ -28,7 +28,7 @@ use Rattle.c_copies.proofs.Filters.{Whole}
 use Rattle.c_copies.proofs.Steps.{isN, isM}
 use Rattle.c_information.specs.Information.{informationAt, withInformation}
 use Rattle.c_information.proofs.Calls.{place, kept, put-information}
-use Rattle.c_information_steps.specs.Steps.{readingLength, readingAt, readingsAt}
+use Rattle.c_fusion.specs.Fusion.{readingLength, readingAt, readingsAt}
 
 -- ---- k is c times e, tested by division
 pub divided : (k c : ℕ) {e : ℕ} → 0 < e → eqb (k / e) c && eqb (k % e) 0 ≡ eqb k (c * e)

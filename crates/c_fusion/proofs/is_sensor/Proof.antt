@@ -8,10 +8,10 @@ use lib.Dec.{eqb}
 use Prim.Native.Nat.{_*_}
 use Rattle.c_copies.specs.Filter.{isStep}
 use Rattle.c_copies.proofs.Filters.{Few, step-of, and-tested, and-failed}
-use Rattle.c_information_steps.specs.Steps.{isSensor}
+use Rattle.c_fusion.specs.Fusion.{isSensor}
 use borrow.Author.Needs.{needs}
-use Rattle.c_information_steps.proofs.is_sensor.Statement.{statement}
-use Rattle.c_information_steps.proofs.is_sensor.Tie as tie
+use Rattle.c_fusion.proofs.is_sensor.Statement.{statement}
+use Rattle.c_fusion.proofs.is_sensor.Tie as tie
 
 few : (c : tie.Then1) → let a = c .before .before .args in Few (a .n) (a .m) (a .i)
 few c = step-of _ _ _ _ _ _ (sym (c .before .is-step .ensures) ∙ c .if1 .taken) .whole .few

@@ -10,11 +10,11 @@ use Rattle.answer.specs.Outcome.{if-fitting}
 use Rattle.c_copies.specs.Filter.{isStep}
 use Rattle.c_copies.proofs.Filters.{Step, step-of}
 use Rattle.c_information.specs.Information.{informationAt, steppedIn}
-use Rattle.c_information_steps.specs.Steps.{readingLength, fusedAllAt}
-use Rattle.c_information_steps.proofs.Fusions.{Fusing, fusing-begun, fusing-room, fusing-more, fusing-ended}
+use Rattle.c_fusion.specs.Fusion.{readingLength, fusedAllAt}
+use Rattle.c_fusion.proofs.Fusions.{Fusing, fusing-begun, fusing-room, fusing-more, fusing-ended}
 use borrow.Author.Needs.{needs}
-use Rattle.c_information_steps.proofs.information_fuse_sensors.Statement.{statement}
-use Rattle.c_information_steps.proofs.information_fuse_sensors.Tie as tie
+use Rattle.c_fusion.proofs.information_fuse_sensors.Statement.{statement}
+use Rattle.c_fusion.proofs.information_fuse_sensors.Tie as tie
 
 abbrev Inv-loop : tie.InvT-loop
 Inv-loop n m i filter count sensors from sn sm xi₀ omega₀ j₀ xi omega j = Fusing sn sm sensors (informationAt n m i filter) count j omega xi

@@ -7,10 +7,10 @@ use Rattle.sizes.proofs.Sizes.{bounds-of}
 use Rattle.steps.proofs.Sizes.{well-sized}
 use Rattle.c_copies.specs.Filter.{isStep}
 use Rattle.c_copies.proofs.Filters.{Whole, whole-of, and-tested, and-failed}
-use Rattle.c_information_steps.proofs.Fusions.{divided}
+use Rattle.c_fusion.proofs.Fusions.{divided}
 use borrow.Author.Needs.{needs}
-use Rattle.c_information_steps.proofs.are_sensors.Statement.{statement}
-use Rattle.c_information_steps.proofs.are_sensors.Tie as tie
+use Rattle.c_fusion.proofs.are_sensors.Statement.{statement}
+use Rattle.c_fusion.proofs.are_sensors.Tie as tie
 
 test : (c : tie.Then1) → let a = c .before .before .args in Whole (a .n) (a .m) (a .i) (a .len)
 test c = whole-of _ _ _ _ (sym (c .before .is-filter .ensures) ∙ c .if1 .taken)

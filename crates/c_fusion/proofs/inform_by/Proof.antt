@@ -5,10 +5,10 @@ use Rattle.sizes.specs.Size.{count}
 use Rattle.sizes.proofs.Sizes.{bounds}
 use Rattle.filtering.specs.Information.{informed, fuse}
 use Rattle.information_steps.specs.Step.{informationRows, arraysOf}
-use Rattle.c_information_steps.proofs.Fusions.{Places, places, sensor-read, noise-read, measured-read}
+use Rattle.c_fusion.proofs.Fusions.{Places, places, sensor-read, noise-read, measured-read}
 use borrow.Author.Needs.{needs}
-use Rattle.c_information_steps.proofs.inform_by.Statement.{statement}
-use Rattle.c_information_steps.proofs.inform_by.Tie as tie
+use Rattle.c_fusion.proofs.inform_by.Statement.{statement}
+use Rattle.c_fusion.proofs.inform_by.Tie as tie
 
 there : (c : tie.After-reading-length) → let a = c .before .before .before .before .args in
     Places (a .n) (a .m) (a .sensors .now) (a .j) (c .before .before .number .result) (c .before .number2 .result) (c .reading-length .result)

@@ -1,0 +1,2 @@
+mod Sensors
+mod Fusions
