@@ -36,18 +36,25 @@ fn model(draw: &mut Draw) -> Model {
     }
 }
 
-/// One sensor: h, its inverted noise, and what it measured.
-fn sensor(draw: &mut Draw, model: &Model, call: &mut Call) {
-    call.word("1");
-    call.numbers(&draw.numbers(Style::Ordinary, model.m * model.n));
-    call.numbers(&covariance(draw, model.m));
-    call.numbers(&vector(draw, model.m));
+/// Sensors behind their count: of each h, its inverted noise, and what it measured.
+fn sensors(draw: &mut Draw, model: &Model, count: usize, call: &mut Call) {
+    call.word(&count.to_string());
+    for _ in 0..count {
+        call.numbers(&draw.numbers(Style::Ordinary, model.m * model.n));
+        call.numbers(&covariance(draw, model.m));
+        call.numbers(&vector(draw, model.m));
+    }
 }
 
-fn fusion(draw: &mut Draw, model: &Model) -> Call {
+fn fusion(draw: &mut Draw, model: &Model, count: usize) -> Call {
     let mut call = begun(model, "if_fuse");
-    sensor(draw, model, &mut call);
+    sensors(draw, model, count, &mut call);
     call
+}
+
+/// How many sensors: mostly one to three, now and then none or many.
+fn some(draw: &mut Draw) -> usize {
+    *draw.pick(&[0, 1, 1, 1, 2, 2, 3, 7])
 }
 
 /// Two to seven steps.
@@ -66,7 +73,8 @@ pub fn sequence(draw: &mut Draw, model: Model) -> Call {
             }
             6 => {
                 call.word("F");
-                sensor(draw, &model, &mut call);
+                let count = some(draw);
+                sensors(draw, &model, count, &mut call);
             }
             7 => call.word("S"),
             8 => call.word("C"),
@@ -88,14 +96,18 @@ pub fn call(draw: &mut Draw) -> Call {
         3 => begun(&model, "if_reset").with(&vector(draw, model.n)).with(&covariance(draw, model.n)),
         4 => begun(&model, "if_state"),
         5 => begun(&model, "if_cov"),
-        6 | 7 => fusion(draw, &model),
+        6 | 7 => {
+            let count = some(draw);
+            fusion(draw, &model, count)
+        }
         8..=11 => begun(&model, "if_predict").with(&vector(draw, model.i)),
         12..=16 => begun(&model, "if_update").with(&vector(draw, model.m)),
         _ => sequence(draw, model),
     }
 }
 
-/// The worked case of the requirements and its neighbours, every size once, and each refusal.
+/// The worked case of the requirements and its neighbours, every size once, each refusal, and lists of sensors of several
+/// lengths.
 pub fn edges(draw: &mut Draw) -> Vec<Call> {
     let zeros = |r: f64| Model {
         n: 2,
@@ -115,6 +127,17 @@ pub fn edges(draw: &mut Draw) -> Vec<Call> {
     }
     calls.push(begun(&zeros(1.0), "if_predict").with(&[0.5]));
     calls.push(begun(&zeros(1.0), "if_reset").with(&[0.0; 6]));
+    // An update that is refused keeps its addition, and two sensors behind it make a state.
+    let mut mended = begun(&zeros(1.0), "if_seq");
+    mended.word("U");
+    mended.number(3.0);
+    mended.word("F");
+    mended.word("2");
+    mended.numbers(&[1.0, 0.0, 1.0, 3.0, 0.0, 1.0, 0.25, 2.0]);
+    mended.word("S");
+    calls.push(mended);
+    let many = good(draw, 2, 1, 1);
+    calls.push(fusion(draw, &many, 64));
     for n in 1..=4 {
         let model = good(draw, n, 1, 1);
         calls.push(begun(&model, "if_state"));
@@ -128,7 +151,7 @@ pub fn edges(draw: &mut Draw) -> Vec<Call> {
             }
             let model = good(draw, n, m, 1);
             calls.push(begun(&model, "if_from_information"));
-            calls.push(fusion(draw, &model));
+            calls.push(fusion(draw, &model, [0, 1, 2, 7][(n + m) % 4]));
             calls.push(sequence(draw, model));
             let refused = refusing(draw, n, m, 1);
             calls.push(begun(&refused, "if_update").with(&vector(draw, m)));

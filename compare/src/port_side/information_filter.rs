@@ -128,32 +128,49 @@ impl Filter {
         Ok((status, true))
     }
 
-    /// Sensors, one after another.
-    fn fuse(&mut self, w: &mut Words, answer: &mut Answer) -> Result<Told, Bad> {
-        for _ in 0..w.whole::<usize>()? {
-            let (h, r_inv, z) = (w.cells(self.m * self.n)?, w.cells(self.m * self.m)?, w.cells(self.m)?);
-            let (filter, len) = (self.lent.ptr(), self.lent.len());
-            let status = unsafe {
-                estimators_information_fuse_sensor(
-                    self.n,
-                    self.m,
-                    self.i,
-                    filter,
-                    len,
-                    h.as_ptr(),
-                    h.len(),
-                    r_inv.as_ptr(),
-                    r_inv.len(),
-                    z.as_ptr(),
-                    z.len(),
-                )
-            };
-            if status != 0 {
-                return Ok((status, false));
-            }
+    /// One sensor's numbers by estimators_information_fuse_sensor.
+    fn fuse_one(&mut self, sensor: &[f64]) -> u8 {
+        let (h, rest) = sensor.split_at(self.m * self.n);
+        let (r_inv, z) = rest.split_at(self.m * self.m);
+        let (filter, len) = (self.lent.ptr(), self.lent.len());
+        unsafe {
+            estimators_information_fuse_sensor(
+                self.n,
+                self.m,
+                self.i,
+                filter,
+                len,
+                h.as_ptr(),
+                h.len(),
+                r_inv.as_ptr(),
+                r_inv.len(),
+                z.as_ptr(),
+                z.len(),
+            )
         }
-        answer.ok();
-        Ok((0, false))
+    }
+
+    /// Sensors in one call; one by one they must leave the same.
+    fn fuse(&mut self, w: &mut Words, answer: &mut Answer) -> Result<Told, Bad> {
+        let each = self.m * self.n + self.m * self.m + self.m;
+        let count = w.whole::<usize>()?;
+        let sensors = w.cells(count * each)?;
+        let mut single = Filter { lent: self.lent.clone(), ..*self };
+        let (filter, len) = (self.lent.ptr(), self.lent.len());
+        let (from, from_len) = (sensors.as_ptr(), sensors.len());
+        let status = unsafe {
+            estimators_information_fuse_sensors(self.n, self.m, self.i, filter, len, count, from, from_len)
+        };
+        if sensors.chunks(each).any(|sensor| single.fuse_one(sensor) != status) {
+            return Err("the sensors of a list told something else one by one");
+        }
+        if !same(self.lent.cells(), single.lent.cells()) {
+            return Err("the sensors of a list left another filter one by one");
+        }
+        if status == 0 {
+            answer.ok();
+        }
+        Ok((status, false))
     }
 
     fn reset(&mut self, w: &mut Words, answer: &mut Answer) -> Result<Told, Bad> {

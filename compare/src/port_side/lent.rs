@@ -6,6 +6,7 @@ use compare::protocol::{Answer, Bad};
 /// No result of the comparison is likely to have these bits, and they are no NaN.
 const MARKER: u64 = 0xC0DE_C0DE_C0DE_C0DE;
 
+#[derive(Clone)]
 pub struct Lent {
     cells: Vec<f64>,
 }

@@ -55,6 +55,10 @@ fn pair(n: usize) -> usize {
     n + n * n
 }
 
+fn sensor(n: usize, m: usize) -> usize {
+    m * n + m * m + m
+}
+
 fn filter(n: usize, m: usize, i: usize) -> usize {
     2 * n * n + n * i + m * n + m * m + pair(n)
 }
@@ -131,6 +135,8 @@ pub fn rows() -> Vec<Row> {
         row!(estimators_information_predict(n = 4, m = 2, i = 3) (n) (m) (i) [filter(n, m, i)] [i]),
         row!(estimators_information_update(n = 4, m = 2, i = 2) (n) (m) (i) [filter(n, m, i)] [m] [m]),
         row!(estimators_information_fuse_sensor(n = 4, m = 2, i = 1) (n) (m) (i) [filter(n, m, i)] [m * n] [m * m] [m]),
+        row!(estimators_information_fuse_sensors(n = 4, m = 2, i = 1, sensors = 3) (n) (m) (i)
+            [filter(n, m, i)] (sensors) [3 * sensor(n, m)]),
         row!(estimators_information_reset(n = 2, m = 3, i = 1) (n) (m) (i) [filter(n, m, i)] [n] [n * n]),
         row!(estimators_information_state(n = 2, m = 3, i = 1) (n) (m) (i) [filter(n, m, i)] [n]),
         row!(estimators_information_covariance(n = 2, m = 3, i = 1) (n) (m) (i) [filter(n, m, i)] [n * n]),

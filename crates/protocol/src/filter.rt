@@ -7,6 +7,7 @@ use crate::words::R;
 use crate::words::S;
 use crate::words::U;
 use crate::words::cells;
+use crate::words::count_at;
 
 // The letter of no step.
 pub const N: u64 = 78;
@@ -40,15 +41,22 @@ pub fn parts_of(s: Sizes) -> Parts
     Parts(square, h, q, r, x, p, p + square)
 }
 
-// How many numbers a step takes; those of a sensor stand behind their count.
-pub fn step_cells(letter: u64, s: Sizes) -> usize
-    ensures { λ r. ⌜ r ≤ 49 ⌝ }
+// How many numbers a sensor takes.
+pub fn sensor_cells(s: Sizes) -> usize
+    ensures { λ r. ⌜ r ≤ 48 ⌝ }
+{
+    cells(s.m, s.n) + cells(s.m, s.m) + cells(s.m, 1)
+}
+
+// How many numbers a step with the values v from `at` on takes; those of sensors stand behind their count.
+pub fn step_cells(letter: u64, s: Sizes, v: &[f64], at: usize) -> usize
+    ensures { λ r. ⌜ r ≤ 47953 ⌝ }
 {
     match letter {
         P => cells(s.i, 1),
         U => cells(s.m, 1),
         R => cells(s.n, 1) + cells(s.n, s.n),
-        F => 1 + cells(s.m, s.n) + cells(s.m, s.m) + cells(s.m, 1),
+        F => 1 + count_at(v, at) * sensor_cells(s),
         _ => 0,
     }
 }

@@ -93,7 +93,7 @@ fn steps(
     let mut then = at;
     let mut place = given::LOST;
     while next <= v.len() {
-        let end = next + step_cells(letter, s);
+        let end = next + step_cells(letter, s, v, next);
         place = step(op, letter, s, filter, part(v, next, end), given, then);
         then = given::text(given, place, given::THEN);
         letter = whole_at(v, end);

@@ -14,8 +14,8 @@ use protocol::words::P;
 use protocol::words::S;
 use protocol::words::U;
 use protocol::words::cells;
+use protocol::words::count_at;
 use protocol::words::part;
-use protocol::words::whole_at;
 
 // ---- what a filter leaves: omega and xi
 
@@ -107,22 +107,29 @@ pub fn begin(s: Sizes, w: &[f64], filter: &mut [f64], at: usize) -> usize
 
 // ---- steps with the numbers w
 
-// One sensor. Another count is refused as a size, which no answer given is.
-fn fuse(s: Sizes, filter: &mut [f64], w: &[f64]) -> u8 {
-    if whole_at(w, 0) != 1 {
-        return 1;
-    }
-    let noise = 1 + cells(s.m, s.n);
+fn fuse_one(s: Sizes, filter: &mut [f64], w: &[f64]) -> u8 {
+    let noise = cells(s.m, s.n);
     let z = noise + cells(s.m, s.m);
     information::estimators_information_fuse_sensor(
         s.n,
         s.m,
         s.i,
         filter,
-        part(w, 1, noise),
+        part(w, 0, noise),
         part(w, noise, z),
         part(w, z, w.len()),
     )
+}
+
+// Sensors behind their count: one by its own function, else a list.
+fn fuse(s: Sizes, filter: &mut [f64], w: &[f64]) -> u8 {
+    let count = count_at(w, 0);
+    let sensors = part(w, 1, w.len());
+    if count == 1 {
+        fuse_one(s, filter, sensors)
+    } else {
+        information::estimators_information_fuse_sensors(s.n, s.m, s.i, filter, count, sensors)
+    }
 }
 
 fn reset(s: Sizes, filter: &mut [f64], w: &[f64]) -> u8 {
