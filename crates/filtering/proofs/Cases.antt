@@ -9,6 +9,7 @@ unfolding computing
 cases = record {
   bits-of-tracker = refl;
   tracking = refl;
+  linear-refused = refl;
   information-added = refl;
   information-noise = refl;
   information-after = refl;

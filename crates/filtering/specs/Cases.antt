@@ -75,6 +75,9 @@ pub record Cases : Type 0 where
   -- the tracker: step 1, noises 4288 and 32, one predict, an update with 400
   pub tracking : onward Linear.atStart (Linear.predict (Linear.trackerMotion n1 n4288) (n0 ∷ []) Linear.atStart) (λ e t. Linear.update (Linear.trackerSensor n32) (n400 ∷ []) e)
       ≡ done (n400 ∷ []) (estimate (n300 ∷ speed ∷ []) (twoByTwo n768 n786 n786 speedVariance))
+  -- linear: an innovation covariance that is rejected changes nothing
+  pub linear-refused : Linear.update (record { n = 1; m = 1; h = oneByOne n1; r = oneByOne n0 }) (n3 ∷ []) (estimate (n5 ∷ []) (oneByOne n0))
+      ≡ record { told = refused 3; left = unchanged }
   -- information: the new matrix is rejected, and keeps the addition; noise that cannot be inverted changes nothing
   pub information-added : Information.update (sensor ((n1 ∷ n0 ∷ []) ∷ []) (oneByOne n1)) (n3 ∷ []) (omega (twoByTwo n0 n0 n0 n0) (n0 ∷ n0 ∷ []))
       ≡ record { told = refused 3; left = this (omega (twoByTwo n1 n0 n0 n0) (n3 ∷ n0 ∷ [])) }
