@@ -146,8 +146,8 @@ module _ (n m i : ℕ) (f : List Float) (W : Whole n m i (length f)) {N M : Size
         (vector-read k f N-is (omega (arith, W .long)) ev ∙ ap (λ (x : ℕ). padRow (vectorAt n f x)) at) t,
       ))
 
-  pub fusing-ended : {s : List Float} {c j : ℕ} {w : Rows} {v g : List Float} → Fusing N M s (informationAt n m i f) c j w v → c ≤ j → g ≡ kept n f N v w
+  pub fusing-ended : {s : List Float} {c j : ℕ} {w : Rows} {v g : List Float} → Fusing N M s (informationAt n m i f) c j w v → c ≤ j → g ≡ kept k f N v w
       → g ≡ withInformation n m i f (fuse n m (readingsAt n m s c) (informationAt n m i f))
   fusing-ended {s} {c} F h p =
-      put-information n m i f W en em (fuse n m (readingsAt n m s c) (informationAt n m i f)) (fuse-sized n m (readingsAt n m s c) (informationAt n m i f) sized-at)
+      put-information n m i f W en em (place n m i f W) (fuse n m (readingsAt n m s c) (informationAt n m i f)) (fuse-sized n m (readingsAt n m s c) (informationAt n m i f) sized-at)
       (fusing-all F h ∙ λ t. arraysOf (fuse (N-is t) (M-is t) (readingsAt (N-is t) (M-is t) s c) (informationAt n m i f))) p

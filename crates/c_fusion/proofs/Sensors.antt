@@ -36,9 +36,9 @@ module _ (n m i : ℕ) (f : List Float) (W : Whole n m i (length f)) {N M : Size
   pub fuses : (h w z : List Float) {a b w₀ w′ : Rows} {u v v′ g : List Float} → length h ≡ m * n → length w ≡ m * m → length z ≡ m
       → a ≡ pad (matrixIn (count M) (count N) h 0) → b ≡ pad (matrixIn (count M) (count M) w 0) → u ≡ padRow (vectorIn (count M) z 0)
       → v ≡ padRow (vectorIn (count N) f k) → w₀ ≡ pad (matrixIn (count N) (count N) f (k + n))
-      → (w′, v′) ≡ arraysOf (informed (count N) (count M) (part M N a) (part M M b) (front M u) (informationRows N w₀ v)) → g ≡ kept n f N v′ w′
+      → (w′, v′) ≡ arraysOf (informed (count N) (count M) (part M N a) (part M M b) (front M u) (informationRows N w₀ v)) → g ≡ kept k f N v′ w′
       → g ≡ withInformation n m i f (informed n m (matrixAt m n h 0) (matrixAt m m w 0) z O)
   fuses h w z lh lw lz ea eb eu ev ew e p =
-      put-information n m i f W en em (informed n m (matrixAt m n h 0) (matrixAt m m w 0) z O) (shape-informed n m (matrixAt m n h 0) (matrixAt m m w 0) z O, length-informed n m (matrixAt m n h 0) (matrixAt m m w 0) z O)
+      put-information n m i f W en em (place n m i f W) (informed n m (matrixAt m n h 0) (matrixAt m m w 0) z O) (shape-informed n m (matrixAt m n h 0) (matrixAt m m w 0) z O, length-informed n m (matrixAt m n h 0) (matrixAt m m w 0) z O)
       (e
-      ∙ λ t. arraysOf (informed (N-is t) (M-is t) (matrix-used 0 h M-is N-is (omega (arith, lh)) ea t) (matrix-used 0 w M-is M-is (omega (arith, lw)) eb t) (vector-given n m i f W en em refl (place n m i f W) M z M-is lz eu t) (information-read n m i f W en em ev ew t))) p
+      ∙ λ t. arraysOf (informed (N-is t) (M-is t) (matrix-used 0 h M-is N-is (omega (arith, lh)) ea t) (matrix-used 0 w M-is M-is (omega (arith, lw)) eb t) (vector-given n m i f W en em refl (place n m i f W) M z M-is lz eu t) (information-read n m i f W en em (place n m i f W) ev ew t))) p

@@ -38,22 +38,22 @@ use Rattle.c_information.specs.Information.{informationAt, withInformati
 pub place : (n m i : ℕ) (f : List Float) → Whole n m i (length f) → length f - (n + n * n) ≡ estimatePlace n m i
 place n m i f W = omega (arith, W .long)
 
--- the slice f with Ω x and Ω of the arrays v and w put where it keeps them
+-- the slice f with Ω x and Ω of the arrays v and w put at k
 abbrev pub kept : ℕ → List Float → Size → List Float → Rows → List Float
-kept n f N v w = putAt (length f - (n + n * n)) (cut (count N) v ++ joined (used (count N) (count N) w)) f
+kept k f N v w = putAt k (cut (count N) v ++ joined (used (count N) (count N) w)) f
 
--- f is the slice; N and M are the sizes as the code has them
-module _ (n m i : ℕ) (f : List Float) (W : Whole n m i (length f)) {N M : Size} (en : N ≡ sizeOf n) (em : M ≡ sizeOf m) where
-  pub information-read : {w : Rows} {v : List Float} → v ≡ padRow (vectorIn (count N) f (length f - (n + n * n))) → w ≡ pad (matrixIn (count N) (count N) f (length f - (n + n * n) + n)) → informationRows N w v ≡ informationAt n m i f
-  information-read ev ew = λ t. let e = estimate-read n m i f W en em refl (place n m i f W) ev ew t in record { matrix = e .covariance; vector = e .state }
+-- f is the slice; N and M are the sizes as the code has them, and k where it keeps Ω x and Ω
+module _ (n m i : ℕ) (f : List Float) (W : Whole n m i (length f)) {N M : Size} {k : ℕ} (en : N ≡ sizeOf n) (em : M ≡ sizeOf m) (ek : k ≡ estimatePlace n m i) where
+  pub information-read : {w : Rows} {v : List Float} → v ≡ padRow (vectorIn (count N) f k) → w ≡ pad (matrixIn (count N) (count N) f (k + n)) → informationRows N w v ≡ informationAt n m i f
+  information-read ev ew = λ t. let e = estimate-read n m i f W en em refl ek ev ew t in record { matrix = e .covariance; vector = e .state }
 
-  pub put-information : (o : Information) {w : Rows} {v g : List Float} → Sized n o → (w, v) ≡ arraysOf o → g ≡ kept n f N v w → g ≡ withInformation n m i f o
+  pub put-information : (o : Information) {w : Rows} {v g : List Float} → Sized n o → (w, v) ≡ arraysOf o → g ≡ kept k f N v w → g ≡ withInformation n m i f o
   put-information o s d q =
-      put-back n m i f W en em refl (place n m i f W) {e = estimate (o .vector) (o .matrix)} (record { state = s .1; covariance = s .0 }) (λ t. d t .1) (λ t. d t .0) q
+      put-back n m i f W en em refl ek {e = estimate (o .vector) (o .matrix)} (record { state = s .1; covariance = s .0 }) (λ t. d t .1) (λ t. d t .0) q
 
   -- ---- a step whose refusal changes nothing, by its status
   pub stepped : (w : Rows) (v : List Float) {o : Outcome Information (Unit {0})} {s : Status} {w′ : Rows} {v′ g : List Float} → Plain n o → (s, (w′, v′)) ≡ handed statusOf arraysOf (w, v) o → s ≡ Done
-      → g ≡ kept n f N v′ w′ → (0, g) ≡ steppedIn n m i f o
+      → g ≡ kept k f N v′ w′ → (0, g) ≡ steppedIn n m i f o
   stepped w v (plain (refused j) l) e d q = let z : _≡_ {A = Status} Done (Refused j) = sym d ∙ (λ t. e t .0) in cc
   stepped w v (plain (answered o) l) e d q = λ t. (0, put-information o (l o refl) (λ t. e t .1) q t)
 
@@ -123,12 +123,12 @@ module _ {n m i : ℕ} {a b h q r x p : List Float} (f : List Float) (g : Given 
       whole : Whole n m i (length parts)
       whole = subst (Whole n m i) (sym same-length) (g .whole)
 
-      put : f₂ ≡ kept n parts N v w
+      put : f₂ ≡ kept (length parts - (n + n * n)) parts N v w
       put = e₂ ∙ λ t. putAt (sym same-length t - (n + n * n)) (cut (count N) v ++ joined (used (count N) (count N) w)) (e₁ t)
 
       go : (o : Answer Information) → ((l : Information) → o ≡ answered l → Sized n l) → (s, (w, v)) ≡ handed statusOf arraysOf (w₀, v₀) (into o) → (0, f₂) ≡ filled o
       go (refused j) l e = let z : _≡_ {A = Status} Done (Refused j) = sym d ∙ (λ t. e t .0) in cc
-      go (answered o) l e = λ t. (0, put-information n m i parts whole en refl o (l o refl) (λ t. e t .1) put t)
+      go (answered o) l e = λ t. (0, put-information n m i parts whole en refl (place n m i parts whole) o (l o refl) (λ t. e t .1) put t)
 
   pub new-refused : (w₀ : Rows) (v₀ : List Float) {s : Status} {w : Rows} {v : List Float} {j : ℕ} → (s, (w, v)) ≡ handed statusOf arraysOf (w₀, v₀) (into (ofEstimateAt n x p)) → s ≡ Refused j → (j, f) ≡ filled (ofEstimateAt n x p)
   new-refused w₀ v₀ {s} {w} {v} {j} e d = go (ofEstimateAt n x p) e

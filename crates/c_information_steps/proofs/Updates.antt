@@ -1,7 +1,7 @@
 -- An update on the rows that were read from a slice is that on the slice, and what is put back is what it leaves. Assumes nothing.
 use mathlib.Core.Path.{_≡_, refl, sym, ap, _∙_}
 use mathlib.Core.List.{List}
-use Prim.Native.Nat.{ℕ, _+_, _-_, _*_}
+use Prim.Native.Nat.{ℕ, _+_, _*_}
 use native.Mathlib.Omega.{arith}
 use lib.ListN.{length}
 use lib.Ieee.{Float}
@@ -27,23 +27,20 @@ use Rattle.layout.proofs.Calls.{part-read, vector-put}
 use Rattle.steps.specs.Step.{Rows}
 use Rattle.information_steps.specs.Step.{informationRows, arraysOf, updateBy}
 use Rattle.information_steps.proofs.Ways.{shape-informed, length-informed, update-is, inverted, rejected}
-use Rattle.c_copies.specs.Filter.{sensorAt}
+use Rattle.c_copies.specs.Filter.{estimatePlace, sensorAt}
 use Rattle.c_copies.proofs.Filters.{Whole}
 use Rattle.c_copies.proofs.Steps.{isN, isM, vector-given}
 use Rattle.c_information.specs.Information.{informationAt, withInformation}
-use Rattle.c_information.proofs.Calls.{place, kept, information-read, put-information}
+use Rattle.c_information.proofs.Calls.{kept, information-read, put-information}
 use Rattle.c_information_steps.specs.Steps.{outcomeIn}
 
--- f is the slice; N and M are the sizes as the code has them
-module _ (n m i : ℕ) (f : List Float) (W : Whole n m i (length f)) {N M : Size} (en : N ≡ sizeOf n) (em : M ≡ sizeOf m) where
-  abbrev k : ℕ
-  k = length f - (n + n * n)
-
+-- f is the slice; N and M are the sizes as the code has them, and k where it keeps Ω x and Ω
+module _ (n m i : ℕ) (f : List Float) (W : Whole n m i (length f)) {N M : Size} {k : ℕ} (en : N ≡ sizeOf n) (em : M ≡ sizeOf m) (ek : k ≡ estimatePlace n m i) where
   N-is : count N ≡ n
-  N-is = isN n m i f W en em refl (place n m i f W)
+  N-is = isN n m i f W en em refl ek
 
   M-is : count M ≡ m
-  M-is = isM n m i f W en em refl (place n m i f W)
+  M-is = isM n m i f W en em refl ek
 
   -- ---- an update: its noise, and by the inverted noise A
   abbrev Y : Sensor Matrix
@@ -75,15 +72,15 @@ module _ (n m i : ℕ) (f : List Float) (W : Whole n m i (length f)) {N M : Size
       → updateBy (record { n = count N; m = count M; h = part M N h; r = Y .r }) (front M u) (informationRows N w v) A ≡ updateBy Y z O A
   update-read z A l eh eu ev ew =
       λ t. updateBy (record { n = N-is t; m = M-is t; h = part-read (filterParts n m i) f 2 (omega (arith, W .long)) (omega arith) M-is N-is (omega arith) eh t; r = Y .r })
-      (vector-given n m i f W en em refl (place n m i f W) M z M-is l eu t) (information-read n m i f W en em ev ew t) A
+      (vector-given n m i f W en em refl ek M z M-is l eu t) (information-read n m i f W en em ek ev ew t) A
 
   module _ (z y : List Float) (A : Matrix) (q : inv m (Y .r) ≡ answered A) (w : Rows) (v₀ : List Float) {r : VectorResult} {w′ : Rows} {v g : List Float} (e : (r, (w′, v)) ≡ handed asVector arraysOf (w, v₀) (updateBy Y z O A))
-      (p : g ≡ kept n f N v w′) where
+      (p : g ≡ kept k f N v w′) where
     abbrev o′ : Information
     o′ = informed n m (Y .h) A z O
 
     left : g ≡ withInformation n m i f o′
-    left = put-information n m i f W en em o′ (shape-informed n m (Y .h) A z O, length-informed n m (Y .h) A z O) (λ t. e t .1) p
+    left = put-information n m i f W en em ek o′ (shape-informed n m (Y .h) A z O, length-informed n m (Y .h) A z O) (λ t. e t .1) p
 
     abbrev of : Answer Vector → ℕ × (List Float × List Float)
     of a = outcomeIn n m i f y (record { told = mapped (λ x. innovation m n (Y .h) x z) a; left = this o′ })

@@ -5,11 +5,13 @@ ghost use Prim.Native.Nat.{_+_, _*_};
 ghost use Rattle.c_information_steps.specs.Steps.{predictIn, updateIn};
 use answer::Status;
 use c_copies::is_step;
+use c_filters::is_plane;
 use c_filters::is_road;
 use c_filters::put_road;
 use c_filters::road_at;
 use information_steps::update_by;
 use matrix::ScalarResult;
+use sizes::Size;
 use sizes::both;
 use sizes::number;
 use sizes::size_of;
@@ -90,6 +92,86 @@ fn update_rows(
     }
 }
 
+// ---- east and north: four states, two measurements and two inputs, 72 numbers, at places that are literals
+
+// One step on, with the input u of two numbers.
+fn predict_plane(filter: &mut [f64], u: &[f64]) -> u8
+    ensures { λ t. ⌜ (t, now (filter .exit)) ≡ predictIn 4 2 2 (now (filter .entry)) (now (u .entry)) ⌝ }
+{
+    if is_step(4, 2, 2, filter.len(), 2, u.len()) {
+        let a = layout::matrix_at(filter, 0, Size::Four, Size::Four);
+        let b = layout::matrix_at(filter, 16, Size::Four, Size::Two);
+        let q = layout::matrix_at(filter, 32, Size::Four, Size::Four);
+        let v = layout::vector_at(u, 0, Size::Two);
+        let mut xi = layout::vector_at(filter, 52, Size::Four);
+        let mut omega = layout::matrix_at(filter, 56, Size::Four, Size::Four);
+        let answer = information_steps::predict(
+            &a,
+            &b,
+            &q,
+            &v,
+            Size::Four,
+            Size::Two,
+            &mut omega,
+            &mut xi,
+        );
+        match answer {
+            Status::Done => {
+                layout::put_pair(filter, 52, xi, &omega, Size::Four);
+                0
+            }
+            Status::Refused(number) => number,
+        }
+    } else {
+        1
+    }
+}
+
+// Updated by the measurement z of two numbers.
+fn update_plane(filter: &mut [f64], z: &[f64], innovation: &mut [f64]) -> u8
+    ensures { λ t. ⌜ (t, (now (filter .exit), now (innovation .exit))) ≡ updateIn 4 2 2 (now (filter .entry)) (now (z .entry)) (now (innovation .entry)) ⌝ }
+{
+    if both(
+        is_step(4, 2, 2, filter.len(), 2, z.len()),
+        innovation.len() == 2,
+    ) {
+        let r = layout::matrix_at(filter, 48, Size::Two, Size::Two);
+        let w = inverse::inverse_of(&r, Size::Two);
+        let noise = w.status;
+        match noise {
+            Status::Done => {
+                let inverted = matrix::rows_of(w);
+                let h = layout::matrix_at(filter, 24, Size::Two, Size::Four);
+                let v = layout::vector_at(z, 0, Size::Two);
+                let mut xi = layout::vector_at(filter, 52, Size::Four);
+                let mut omega = layout::matrix_at(filter, 56, Size::Four, Size::Four);
+                let answer = update_by(
+                    &h,
+                    &inverted,
+                    &v,
+                    Size::Four,
+                    Size::Two,
+                    &mut omega,
+                    &mut xi,
+                );
+                layout::put_pair(filter, 52, xi, &omega, Size::Four);
+                let status = answer.status;
+                match status {
+                    Status::Done => {
+                        let y = answer.cells;
+                        layout::put_vector(innovation, 0, y, Size::Two);
+                        0
+                    }
+                    Status::Refused(number) => number,
+                }
+            }
+            Status::Refused(number) => number,
+        }
+    } else {
+        1
+    }
+}
+
 // ---- one road: two states, one measurement and one input, 19 numbers, read where they stand
 
 // One step on, with the input u of i numbers. Refused with 3, and nothing changes: inversion rejects omega, or the predicted
@@ -111,6 +193,9 @@ pub fn information_predict(n: usize, m: usize, i: usize, filter: &mut [f64], u: 
                 return number;
             }
         }
+    }
+    if is_plane(n, m, i) {
+        return predict_plane(filter, u);
     }
     predict_rows(n, m, i, filter, u)
 }
@@ -153,6 +238,9 @@ pub fn information_update(
                 return number;
             }
         }
+    }
+    if is_plane(n, m, i) {
+        return update_plane(filter, z, innovation);
     }
     update_rows(n, m, i, filter, z, innovation)
 }

@@ -3,11 +3,13 @@
 ghost use mathlib.Core.Path.{_≡_};
 ghost use Rattle.c_sqrt_steps.specs.Step.{predictIn, updateIn};
 use answer::Status;
+use c_filters::is_plane;
 use c_filters::is_road;
 use c_filters::put_road;
 use c_filters::road_at;
 use c_sqrt_kalman::is_step;
 use matrix::ScalarResult;
+use sizes::Size;
 use sizes::both;
 use sizes::size_of;
 
@@ -74,6 +76,56 @@ fn update_rows(
     }
 }
 
+// ---- east and north: four states, two measurements and two inputs, 70 numbers, at places that are literals
+
+// One step on, with the input u of two numbers.
+fn predict_plane(filter: &mut [f64], u: &[f64]) -> u8
+    ensures { λ t. ⌜ (t, now (filter .exit)) ≡ predictIn 4 2 2 (now (filter .entry)) (now (u .entry)) ⌝ }
+{
+    if is_step(4, 2, 2, filter.len(), 2, u.len()) {
+        let a = layout::matrix_at(filter, 0, Size::Four, Size::Four);
+        let b = layout::matrix_at(filter, 16, Size::Four, Size::Two);
+        let q = layout::matrix_at(filter, 32, Size::Four, Size::Four);
+        let v = layout::vector_at(u, 0, Size::Two);
+        let mut x = layout::vector_at(filter, 50, Size::Four);
+        let mut l = layout::matrix_at(filter, 54, Size::Four, Size::Four);
+        let status = sqrt_steps::predict(&a, &b, &q, &v, Size::Four, Size::Two, &mut x, &mut l);
+        layout::put_pair(filter, 50, x, &l, Size::Four);
+        answer::number_of(status)
+    } else {
+        1
+    }
+}
+
+// Corrected by the measurement z of two numbers.
+fn update_plane(filter: &mut [f64], z: &[f64], innovation: &mut [f64]) -> u8
+    ensures { λ t. ⌜ (t, (now (filter .exit), now (innovation .exit))) ≡ updateIn 4 2 2 (now (filter .entry)) (now (z .entry)) (now (innovation .entry)) ⌝ }
+{
+    if both(
+        is_step(4, 2, 2, filter.len(), 2, z.len()),
+        innovation.len() == 2,
+    ) {
+        let h = layout::matrix_at(filter, 24, Size::Two, Size::Four);
+        let r = layout::vector_at(filter, 48, Size::Two);
+        let v = layout::vector_at(z, 0, Size::Two);
+        let mut x = layout::vector_at(filter, 50, Size::Four);
+        let mut l = layout::matrix_at(filter, 54, Size::Four, Size::Four);
+        let answer = sqrt_steps::update(&h, &r, &v, Size::Four, Size::Two, &mut x, &mut l);
+        layout::put_pair(filter, 50, x, &l, Size::Four);
+        let status = answer.status;
+        match status {
+            Status::Done => {
+                let y = answer.cells;
+                layout::put_vector(innovation, 0, y, Size::Two);
+                0
+            }
+            Status::Refused(number) => number,
+        }
+    } else {
+        1
+    }
+}
+
 // ---- one road: two states, one measurement and one input, 19 numbers, read where they stand
 
 // One step on, with the input u of i numbers. Refused with 4: the new covariance has no factor; the state is then the new one, and
@@ -88,6 +140,9 @@ pub fn sqrt_kalman_predict(n: usize, m: usize, i: usize, filter: &mut [f64], u: 
         put_road(filter, g);
         let status = v.answer;
         return answer::number_of(status);
+    }
+    if is_plane(n, m, i) {
+        return predict_plane(filter, u);
     }
     predict_rows(n, m, i, filter, u)
 }
@@ -123,6 +178,9 @@ pub fn sqrt_kalman_update(
                 return number;
             }
         }
+    }
+    if is_plane(n, m, i) {
+        return update_plane(filter, z, innovation);
     }
     update_rows(n, m, i, filter, z, innovation)
 }

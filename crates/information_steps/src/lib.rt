@@ -5,7 +5,7 @@ ghost use mathlib.Core.Path.{_≡_};
 ghost use mathlib.Core.List.{[]};
 ghost use Rattle.answer.specs.Outcome.{into, handed};
 ghost use Rattle.answer.specs.Told.{statusOf};
-ghost use Rattle.algebra.specs.Array.{padRow, pad};
+ghost use Rattle.algebra.specs.Array.{padRow, pad, used};
 ghost use Rattle.sizes.specs.Size.{count, front, part};
 ghost use Rattle.matrix.specs.Result.{asVector};
 ghost use Rattle.filtering.specs.Information.{informed, ofEstimate, state as stateOf, predict as predictOf};
@@ -17,6 +17,27 @@ use sizes::Size;
 use sizes::number;
 
 // ---- what is measured is added, for an H of m rows and n columns and the inverted noise W
+
+// Omega + (Hᵀ W) H for four states and two measurements, written out
+fn informed_four<'a>(
+    omega: &'a [[f64; 4]; 4],
+    h: &'a [[f64; 4]; 4],
+    w: &'a [[f64; 4]; 4],
+) -> [[f64; 4]; 4]
+    ensures { λ v. ⌜
+        v ≡ pad (informed 4 2 (used 2 4 (now (h .entry))) (used 2 2 (now (w .entry))) [] (informationRows Size.Four (now (omega .entry)) []) .matrix) ⌝ }
+{
+    let ht = rows::transposed(h, Size::Two, Size::Four);
+    let s0 = rows::row_product(rows::row_product(ht[0], w, Size::Two), h, Size::Two);
+    let s1 = rows::row_product(rows::row_product(ht[1], w, Size::Two), h, Size::Two);
+    let s2 = rows::row_product(rows::row_product(ht[2], w, Size::Two), h, Size::Two);
+    let s3 = rows::row_product(rows::row_product(ht[3], w, Size::Two), h, Size::Two);
+    let r0 = rows::leading(rows::row_sum(omega[0], s0), Size::Four);
+    let r1 = rows::leading(rows::row_sum(omega[1], s1), Size::Four);
+    let r2 = rows::leading(rows::row_sum(omega[2], s2), Size::Four);
+    let r3 = rows::leading(rows::row_sum(omega[3], s3), Size::Four);
+    [r0, r1, r2, r3]
+}
 
 // Omega + (Hᵀ W) H
 pub fn informed_matrix<'a>(
@@ -31,8 +52,13 @@ pub fn informed_matrix<'a>(
         ≡ pad (informed (count n) (count m) (part m n (now (h .entry))) (part m m (now (w .entry))) [] (informationRows n (now (omega .entry)) [])
         .matrix) ⌝ }
 {
-    let ht = rows::transposed(h, m, n);
     let rows = number(n);
+    if rows == 4 {
+        if number(m) == 2 {
+            return informed_four(omega, h, w);
+        }
+    }
+    let ht = rows::transposed(h, m, n);
     let mut out = [[0.0; 4]; 4];
     for i in 0..rows {
         let htw = rows::row_product(ht[i], w, m);

@@ -21,7 +21,7 @@ use Rattle.information_steps.proofs.Ways.{plain-estimate}
 use Rattle.c_copies.specs.Filter.{isStep, isStepWith}
 use Rattle.c_copies.proofs.Filters.{Step, step-of, and-tested, and-failed}
 use Rattle.c_information.specs.Information.{ofEstimateAt, steppedIn}
-use Rattle.c_information.proofs.Calls.{estimate-given, stepped, stopped}
+use Rattle.c_information.proofs.Calls.{place, estimate-given, stepped, stopped}
 use borrow.Author.Needs.{needs}
 use Rattle.c_information.proofs.information_reset.Statement.{statement}
 use Rattle.c_information.proofs.information_reset.Tie as tie
@@ -49,7 +49,7 @@ returns c =
     let N = is-count (well-sized _ _ _ (s .whole .sizes) .states) (sn .size-of .ensures) in
     let E = estimate-given (sn .size-of .result) N (a .x0 .now) (a .p0 .now) (s .same) (u .if2 .taken) (x .vector-at .ensures) (p .matrix-at .ensures) in
     let e = st .of-estimate .ensures ∙ ap (λ (o : Answer Information). handed statusOf arraysOf (pad [], padRow []) (into o)) E in
-    stepped (a .n) (a .m) (a .i) (a .filter .now) (s .whole) (sn .size-of .ensures) refl (pad []) (padRow []) (plain-estimate _ _) e (told .enum-told .given .1) (put .put-pair .ensures)
+    stepped (a .n) (a .m) (a .i) (a .filter .now) (s .whole) (sn .size-of .ensures) refl (place (a .n) (a .m) (a .i) (a .filter .now) (s .whole)) (pad []) (padRow []) (plain-estimate _ _) e (told .enum-told .given .1) (put .put-pair .ensures)
     ∙ ap (by (a .n) (a .m) (a .i) (a .filter .now) (a .x0 .now) (a .p0 .now)) (sym (sym (and-tested (isStep (a .n) (a .m) (a .i) (length (a .filter .now)) (a .n) (length (a .x0 .now))) (eqb (length (a .p0 .now)) (a .n * a .n)) (t .before .is-step .ensures) (t .if1 .taken) refl) ∙ eq-eqb _ _ (u .if2 .taken)))
 
 returns-2 : tie.Need-returns-2
@@ -67,7 +67,7 @@ returns-2 c =
     let N = is-count (well-sized _ _ _ (s .whole .sizes) .states) (sn .size-of .ensures) in
     let E = estimate-given (sn .size-of .result) N (a .x0 .now) (a .p0 .now) (s .same) (u .if2 .taken) (x .vector-at .ensures) (p .matrix-at .ensures) in
     let e = st .of-estimate .ensures ∙ ap (λ (o : Answer Information). handed statusOf arraysOf (pad [], padRow []) (into o)) E in
-    stopped (a .n) (a .m) (a .i) (a .filter .now) (s .whole) (sn .size-of .ensures) refl (pad []) (padRow []) (plain-estimate _ _) e (told .answer .given .1)
+    stopped (a .n) (a .m) (a .i) (a .filter .now) (s .whole) (sn .size-of .ensures) refl (place (a .n) (a .m) (a .i) (a .filter .now) (s .whole)) (pad []) (padRow []) (plain-estimate _ _) e (told .answer .given .1)
     ∙ ap (by (a .n) (a .m) (a .i) (a .filter .now) (a .x0 .now) (a .p0 .now)) (sym (sym (and-tested (isStep (a .n) (a .m) (a .i) (length (a .filter .now)) (a .n) (length (a .x0 .now))) (eqb (length (a .p0 .now)) (a .n * a .n)) (t .before .is-step .ensures) (t .if1 .taken) refl) ∙ eq-eqb _ _ (u .if2 .taken)))
 
 returns-3 : tie.Need-returns-3

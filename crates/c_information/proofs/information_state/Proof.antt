@@ -15,7 +15,7 @@ use Rattle.steps.proofs.Sizes.{well-sized}
 use Rattle.information_steps.proofs.Ways.{length-state}
 use Rattle.c_copies.proofs.Filters.{Step, step-of}
 use Rattle.c_information.specs.Information.{informationAt}
-use Rattle.c_information.proofs.Calls.{information-read, vector-written, vector-refused}
+use Rattle.c_information.proofs.Calls.{place, information-read, vector-written, vector-refused}
 use borrow.Author.Needs.{needs}
 use Rattle.c_information.proofs.information_state.Statement.{statement}
 use Rattle.c_information.proofs.information_state.Tie as tie
@@ -39,7 +39,7 @@ returns c =
     let a = t .before .before .before .before .args in
     let s = test t in
     let N = is-count (well-sized _ _ _ (s .whole .sizes) .states) (sn .size-of .ensures) in
-    let O = information-read (a .n) (a .m) (a .i) (a .filter .now) (s .whole) (sn .size-of .ensures) refl (x .vector-at .ensures) (w .matrix-at .ensures) in
+    let O = information-read (a .n) (a .m) (a .i) (a .filter .now) (s .whole) (sn .size-of .ensures) refl (place (a .n) (a .m) (a .i) (a .filter .now) (s .whole)) (x .vector-at .ensures) (w .matrix-at .ensures) in
     vector-written (sn .size-of .result) N (state (a .n) (informationAt (a .n) (a .m) (a .i) (a .filter .now))) (a .out .now) (λ y q. length-state _ _ q) (s .same) (st .state .ensures ∙ λ j. asVector (state (N j) (O j))) (told .enum-told .given .1) (put .put-vector .ensures)
     ∙ ap (by (a .n) (a .m) (a .i) (a .filter .now) (a .out .now)) (sym (sym (t .before .is-step .ensures) ∙ t .if1 .taken))
 
@@ -54,7 +54,7 @@ returns-2 c =
     let a = t .before .before .before .before .args in
     let s = test t in
     let N = is-count (well-sized _ _ _ (s .whole .sizes) .states) (sn .size-of .ensures) in
-    let O = information-read (a .n) (a .m) (a .i) (a .filter .now) (s .whole) (sn .size-of .ensures) refl (x .vector-at .ensures) (w .matrix-at .ensures) in
+    let O = information-read (a .n) (a .m) (a .i) (a .filter .now) (s .whole) (sn .size-of .ensures) refl (place (a .n) (a .m) (a .i) (a .filter .now) (s .whole)) (x .vector-at .ensures) (w .matrix-at .ensures) in
     vector-refused (sn .size-of .result) N (state (a .n) (informationAt (a .n) (a .m) (a .i) (a .filter .now))) (a .out .now) (st .state .ensures ∙ λ j. asVector (state (N j) (O j))) (told .status .given .1)
     ∙ ap (by (a .n) (a .m) (a .i) (a .filter .now) (a .out .now)) (sym (sym (t .before .is-step .ensures) ∙ t .if1 .taken))
 

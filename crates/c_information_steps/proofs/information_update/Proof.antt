@@ -1,4 +1,4 @@
--- `information_update` meets its contract: one road by its numbers, and else rows.
+-- `information_update` meets its contract: one road by its numbers, a plane with its sizes at hand, and else rows.
 use native.Mathlib.Omega.{arith}
 use mathlib.Core.Path.{_≡_, sym, ap, _∙_}
 use mathlib.Core.Bool.{Bool, true, _&&_}
@@ -11,6 +11,8 @@ use Rattle.matrix.proofs.Results.{answered-value, refused-number}
 use Rattle.small_inverse.specs.Two.{invNumber}
 use Rattle.c_copies.specs.Filter.{isRoad}
 use Rattle.c_filters.proofs.Roads.{Road, road-of, road-read, pair-put}
+use Rattle.c_filters.proofs.Planes.{plane-of}
+use Rattle.c_information_steps.specs.Steps.{updateIn}
 use Rattle.c_information_steps.proofs.Roads.{not-updated, updates, refuses}
 use Rattle.c_information_steps.proofs.information_update.Statement.{statement}
 use Rattle.c_information_steps.proofs.information_update.Tie as tie
@@ -73,6 +75,14 @@ returns-3 c =
     not-updated b (a .z .now) (a .innovation .now) (road t) (room t) r (road-read b (road t .long) (f .road-at .ensures))
     (refused-number (invNumber (r .r)) (inverted .inverse-number .ensures) (noise .noise2 .given .1))
 
+returns-4 : tie.Need-returns-4
+returns-4 c =
+    let step = c .before .before .before .before in
+    let t = step .before .before .before in
+    let a = t .before .before .before .before .before .before .before .before .args in
+    let p = plane-of (a .n) (a .m) (a .i) (sym (t .before .is-plane .ensures) ∙ t .if2 .taken) in
+    step .update-plane .ensures ∙ λ k. updateIn (p .states k) (p .measurements k) (p .inputs k) (a .filter .now) (a .z .now) (a .innovation .now)
+
 pub information-update-spec : {M : Type 1} → statement M
 information-update-spec =
     tie.close
@@ -80,4 +90,5 @@ information-update-spec =
     (λ c. omega (arith, road (c .before .before .before .before .before .before .before) .one)) (λ c κs. search needs) (λ c κs. search needs) (λ c. search needs)
     (λ c. omega (arith, room (c .before .before .before .before .before .before .before .before .before .before .before .before .before .before .before .before)))
     (λ c. search needs) (λ c. search needs) returns (λ c. search needs) (λ c. search needs) returns-2 (λ c. search needs) (λ c. search needs) returns-3
+    (λ c κs. search needs) (λ c κs. search needs) (λ c. search needs) (λ c. search needs) returns-4
     (λ c κs. search needs) (λ c. search needs) (λ c. search needs) (λ c. search needs))

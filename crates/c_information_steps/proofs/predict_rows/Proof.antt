@@ -46,9 +46,9 @@ returns c =
     let M = motion-read (a .n) (a .m) (a .i) (a .filter .now) (s .whole) (sn .size-of .ensures) refl (si .size-of2 .ensures) (place (a .n) (a .m) (a .i) (a .filter .now) (s .whole)) (am .matrix-at .ensures) (bm .matrix-at2 .ensures) (q .matrix-at3 .ensures) in
     let u = vector-given (a .n) (a .m) (a .i) (a .filter .now) (s .whole) (sn .size-of .ensures) refl (si .size-of2 .ensures) (place (a .n) (a .m) (a .i) (a .filter .now) (s .whole)) (si .size-of2 .result) (a .u .now)
     (isI (a .n) (a .m) (a .i) (a .filter .now) (s .whole) (sn .size-of .ensures) refl (si .size-of2 .ensures) (place (a .n) (a .m) (a .i) (a .filter .now) (s .whole))) (s .same) (v .vector-at .ensures) in
-    let O = information-read (a .n) (a .m) (a .i) (a .filter .now) (s .whole) (sn .size-of .ensures) refl (x .vector-at2 .ensures) (w .matrix-at4 .ensures) in
+    let O = information-read (a .n) (a .m) (a .i) (a .filter .now) (s .whole) (sn .size-of .ensures) refl (place (a .n) (a .m) (a .i) (a .filter .now) (s .whole)) (x .vector-at2 .ensures) (w .matrix-at4 .ensures) in
     let e = st .predict .ensures ∙ λ j. handed statusOf arraysOf (w .matrix-at4 .result, x .vector-at2 .result) (predict (M j) (u j) (O j)) in
-    stepped (a .n) (a .m) (a .i) (a .filter .now) (s .whole) (sn .size-of .ensures) refl (w .matrix-at4 .result) (x .vector-at2 .result) (plain-predict _ _ _) e (told .enum-told .given .1) (put .put-pair .ensures)
+    stepped (a .n) (a .m) (a .i) (a .filter .now) (s .whole) (sn .size-of .ensures) refl (place (a .n) (a .m) (a .i) (a .filter .now) (s .whole)) (w .matrix-at4 .result) (x .vector-at2 .result) (plain-predict _ _ _) e (told .enum-told .given .1) (put .put-pair .ensures)
     ∙ ap (by (a .n) (a .m) (a .i) (a .filter .now) (a .u .now)) (sym (sym (t .before .is-step .ensures) ∙ t .if1 .taken))
 
 returns-2 : tie.Need-returns-2
@@ -69,9 +69,9 @@ returns-2 c =
     let M = motion-read (a .n) (a .m) (a .i) (a .filter .now) (s .whole) (sn .size-of .ensures) refl (si .size-of2 .ensures) (place (a .n) (a .m) (a .i) (a .filter .now) (s .whole)) (am .matrix-at .ensures) (bm .matrix-at2 .ensures) (q .matrix-at3 .ensures) in
     let u = vector-given (a .n) (a .m) (a .i) (a .filter .now) (s .whole) (sn .size-of .ensures) refl (si .size-of2 .ensures) (place (a .n) (a .m) (a .i) (a .filter .now) (s .whole)) (si .size-of2 .result) (a .u .now)
     (isI (a .n) (a .m) (a .i) (a .filter .now) (s .whole) (sn .size-of .ensures) refl (si .size-of2 .ensures) (place (a .n) (a .m) (a .i) (a .filter .now) (s .whole))) (s .same) (v .vector-at .ensures) in
-    let O = information-read (a .n) (a .m) (a .i) (a .filter .now) (s .whole) (sn .size-of .ensures) refl (x .vector-at2 .ensures) (w .matrix-at4 .ensures) in
+    let O = information-read (a .n) (a .m) (a .i) (a .filter .now) (s .whole) (sn .size-of .ensures) refl (place (a .n) (a .m) (a .i) (a .filter .now) (s .whole)) (x .vector-at2 .ensures) (w .matrix-at4 .ensures) in
     let e = st .predict .ensures ∙ λ j. handed statusOf arraysOf (w .matrix-at4 .result, x .vector-at2 .result) (predict (M j) (u j) (O j)) in
-    stopped (a .n) (a .m) (a .i) (a .filter .now) (s .whole) (sn .size-of .ensures) refl (w .matrix-at4 .result) (x .vector-at2 .result) (plain-predict _ _ _) e (told .answer .given .1)
+    stopped (a .n) (a .m) (a .i) (a .filter .now) (s .whole) (sn .size-of .ensures) refl (place (a .n) (a .m) (a .i) (a .filter .now) (s .whole)) (w .matrix-at4 .result) (x .vector-at2 .result) (plain-predict _ _ _) e (told .answer .given .1)
     ∙ ap (by (a .n) (a .m) (a .i) (a .filter .now) (a .u .now)) (sym (sym (t .before .is-step .ensures) ∙ t .if1 .taken))
 
 returns-3 : tie.Need-returns-3

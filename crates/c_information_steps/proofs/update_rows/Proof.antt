@@ -18,6 +18,7 @@ use Rattle.information_steps.specs.Step.{arraysOf}
 use Rattle.c_copies.specs.Filter.{isStep, isStepWith, sensorAt}
 use Rattle.c_copies.proofs.Filters.{Step, step-of}
 use Rattle.c_information.specs.Information.{informationAt}
+use Rattle.c_information.proofs.Calls.{place}
 use Rattle.c_information_steps.specs.Steps.{outcomeIn}
 use Rattle.c_information_steps.proofs.Updates.{noise-inverted, noise-rejected, update-read, updates, refuses, not-updated}
 use borrow.Author.Needs.{needs}
@@ -68,10 +69,10 @@ returns c =
     let a = t .before .before .before .before .before .before .args in
     let s = test t in
     let A = part (sm .size-of2 .result) (sm .size-of2 .result) (o .rows-of .result) in
-    let q = noise-inverted (a .n) (a .m) (a .i) (a .filter .now) (s .whole) (sn .size-of .ensures) (sm .size-of2 .ensures) (r .matrix-at .ensures) (inv .inverse-of .ensures) (told .enum-told .given .1) (o .rows-of .ensures) in
-    let d = update-read (a .n) (a .m) (a .i) (a .filter .now) (s .whole) (sn .size-of .ensures) (sm .size-of2 .ensures) (a .z .now) A (s .same) (h .matrix-at2 .ensures) (v .vector-at .ensures) (x .vector-at2 .ensures) (w .matrix-at3 .ensures) in
+    let q = noise-inverted (a .n) (a .m) (a .i) (a .filter .now) (s .whole) (sn .size-of .ensures) (sm .size-of2 .ensures) (place (a .n) (a .m) (a .i) (a .filter .now) (s .whole)) (r .matrix-at .ensures) (inv .inverse-of .ensures) (told .enum-told .given .1) (o .rows-of .ensures) in
+    let d = update-read (a .n) (a .m) (a .i) (a .filter .now) (s .whole) (sn .size-of .ensures) (sm .size-of2 .ensures) (place (a .n) (a .m) (a .i) (a .filter .now) (s .whole)) (a .z .now) A (s .same) (h .matrix-at2 .ensures) (v .vector-at .ensures) (x .vector-at2 .ensures) (w .matrix-at3 .ensures) in
     let e = st .update-by .ensures ∙ ap (handed asVector arraysOf (w .matrix-at3 .result, x .vector-at2 .result)) d in
-    updates (a .n) (a .m) (a .i) (a .filter .now) (s .whole) (sn .size-of .ensures) (sm .size-of2 .ensures) (a .z .now) (a .innovation .now) A q (w .matrix-at3 .result) (x .vector-at2 .result) e (put .put-pair .ensures) (room t) (told2 .enum-told2 .given .1) (vec .put-vector .ensures)
+    updates (a .n) (a .m) (a .i) (a .filter .now) (s .whole) (sn .size-of .ensures) (sm .size-of2 .ensures) (place (a .n) (a .m) (a .i) (a .filter .now) (s .whole)) (a .z .now) (a .innovation .now) A q (w .matrix-at3 .result) (x .vector-at2 .result) e (put .put-pair .ensures) (room t) (told2 .enum-told2 .given .1) (vec .put-vector .ensures)
     ∙ ap (by (a .n) (a .m) (a .i) (a .filter .now) (a .z .now) (a .innovation .now)) (sym (passed t))
 
 returns-2 : tie.Need-returns-2
@@ -93,10 +94,10 @@ returns-2 c =
     let a = t .before .before .before .before .before .before .args in
     let s = test t in
     let A = part (sm .size-of2 .result) (sm .size-of2 .result) (o .rows-of .result) in
-    let q = noise-inverted (a .n) (a .m) (a .i) (a .filter .now) (s .whole) (sn .size-of .ensures) (sm .size-of2 .ensures) (r .matrix-at .ensures) (inv .inverse-of .ensures) (told .enum-told .given .1) (o .rows-of .ensures) in
-    let d = update-read (a .n) (a .m) (a .i) (a .filter .now) (s .whole) (sn .size-of .ensures) (sm .size-of2 .ensures) (a .z .now) A (s .same) (h .matrix-at2 .ensures) (v .vector-at .ensures) (x .vector-at2 .ensures) (w .matrix-at3 .ensures) in
+    let q = noise-inverted (a .n) (a .m) (a .i) (a .filter .now) (s .whole) (sn .size-of .ensures) (sm .size-of2 .ensures) (place (a .n) (a .m) (a .i) (a .filter .now) (s .whole)) (r .matrix-at .ensures) (inv .inverse-of .ensures) (told .enum-told .given .1) (o .rows-of .ensures) in
+    let d = update-read (a .n) (a .m) (a .i) (a .filter .now) (s .whole) (sn .size-of .ensures) (sm .size-of2 .ensures) (place (a .n) (a .m) (a .i) (a .filter .now) (s .whole)) (a .z .now) A (s .same) (h .matrix-at2 .ensures) (v .vector-at .ensures) (x .vector-at2 .ensures) (w .matrix-at3 .ensures) in
     let e = st .update-by .ensures ∙ ap (handed asVector arraysOf (w .matrix-at3 .result, x .vector-at2 .result)) d in
-    refuses (a .n) (a .m) (a .i) (a .filter .now) (s .whole) (sn .size-of .ensures) (sm .size-of2 .ensures) (a .z .now) (a .innovation .now) A q (w .matrix-at3 .result) (x .vector-at2 .result) e (put .put-pair .ensures) (told2 .status .given .1)
+    refuses (a .n) (a .m) (a .i) (a .filter .now) (s .whole) (sn .size-of .ensures) (sm .size-of2 .ensures) (place (a .n) (a .m) (a .i) (a .filter .now) (s .whole)) (a .z .now) (a .innovation .now) A q (w .matrix-at3 .result) (x .vector-at2 .result) e (put .put-pair .ensures) (told2 .status .given .1)
     ∙ ap (by (a .n) (a .m) (a .i) (a .filter .now) (a .z .now) (a .innovation .now)) (sym (passed t))
 
 returns-3 : tie.Need-returns-3
@@ -109,8 +110,8 @@ returns-3 c =
     let t = sn .before in
     let a = t .before .before .before .before .before .before .args in
     let s = test t in
-    not-updated (a .n) (a .m) (a .i) (a .filter .now) (s .whole) (sn .size-of .ensures) (sm .size-of2 .ensures) (a .z .now) (a .innovation .now)
-    (noise-rejected (a .n) (a .m) (a .i) (a .filter .now) (s .whole) (sn .size-of .ensures) (sm .size-of2 .ensures) (r .matrix-at .ensures) (inv .inverse-of .ensures) (told .noise .given .1))
+    not-updated (a .n) (a .m) (a .i) (a .filter .now) (s .whole) (sn .size-of .ensures) (sm .size-of2 .ensures) (place (a .n) (a .m) (a .i) (a .filter .now) (s .whole)) (a .z .now) (a .innovation .now)
+    (noise-rejected (a .n) (a .m) (a .i) (a .filter .now) (s .whole) (sn .size-of .ensures) (sm .size-of2 .ensures) (place (a .n) (a .m) (a .i) (a .filter .now) (s .whole)) (r .matrix-at .ensures) (inv .inverse-of .ensures) (told .noise .given .1))
     ∙ ap (by (a .n) (a .m) (a .i) (a .filter .now) (a .z .now) (a .innovation .now)) (sym (passed t))
 
 returns-4 : tie.Need-returns-4
