@@ -1,4 +1,4 @@
--- `sqrt_kalman_update` meets its contract: one road by its numbers, and else rows.
+-- `sqrt_kalman_update` meets its contract: one road by its numbers, a plane with its sizes at hand, and else rows.
 use native.Mathlib.Omega.{arith}
 use mathlib.Core.Path.{_≡_, sym, ap, _∙_}
 use mathlib.Core.Bool.{Bool, true, _&&_}
@@ -9,6 +9,8 @@ use borrow.Author.Needs.{needs}
 use Rattle.answer.proofs.Choice.{and-left, and-right}
 use Rattle.c_copies.specs.Filter.{isRoad}
 use Rattle.c_filters.proofs.Roads.{Road, road-of, road-read, pair-put}
+use Rattle.c_filters.proofs.Planes.{plane-of}
+use Rattle.c_sqrt_steps.specs.Step.{updateIn}
 use Rattle.c_sqrt_steps.proofs.Roads.{updates, refuses}
 use Rattle.c_sqrt_steps.proofs.sqrt_kalman_update.Statement.{statement}
 use Rattle.c_sqrt_steps.proofs.sqrt_kalman_update.Tie as tie
@@ -51,6 +53,14 @@ returns-2 c =
     refuses b (a .z .now) (a .innovation .now) (road t) (room t) (f .road-at .result) (road-read b (road t .long) (f .road-at .ensures)) (step .update .ensures)
     (pair-put b (step .update .result .pair) (road t .long) (put .put-road .ensures)) (told .answer2 .given .1)
 
+returns-3 : tie.Need-returns-3
+returns-3 c =
+    let step = c .before .before .before .before in
+    let t = step .before .before .before in
+    let a = t .before .before .before .before .before .before .before .before .args in
+    let p = plane-of (a .n) (a .m) (a .i) (sym (t .before .is-plane .ensures) ∙ t .if2 .taken) in
+    step .update-plane .ensures ∙ λ k. updateIn (p .states k) (p .measurements k) (p .inputs k) (a .filter .now) (a .z .now) (a .innovation .now)
+
 pub sqrt-kalman-update-spec : {M : Type 1} → statement M
 sqrt-kalman-update-spec =
     tie.close
@@ -58,4 +68,5 @@ sqrt-kalman-update-spec =
     (λ c. omega (arith, road (c .before .before .before) .one)) (λ c κs. search needs) (λ c κs. search needs) (λ c. search needs)
     (λ c. omega (arith, room (c .before .before .before .before .before .before .before .before .before .before .before .before)))
     (λ c. search needs) (λ c. search needs) returns (λ c. search needs) (λ c. search needs) returns-2
+    (λ c κs. search needs) (λ c κs. search needs) (λ c. search needs) (λ c. search needs) returns-3
     (λ c κs. search needs) (λ c. search needs) (λ c. search needs) (λ c. search needs))
