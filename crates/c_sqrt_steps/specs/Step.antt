@@ -28,4 +28,5 @@ abbrev pub outcomeIn : ℕ → ℕ → ℕ → List Float → List Float → Out
 outcomeIn n m i f y o = (numberOf (o .told), (standing (withFactored n m i f) f (o .left), toldIn y (o .told)))
 
 abbrev pub updateIn : ℕ → ℕ → ℕ → List Float → List Float → List Float → ℕ × (List Float × List Float)
-updateIn n m i f z y = outcomeIn n m i f y (if-fitting (isStepWith n m i (length f) m (length z) m (length y)) (update (channelAt n m i f) z (factoredAt n m i f)))
+updateIn n m i f z y =
+    outcomeIn n m i f y (if-fitting (isStepWith n m i (length f) m (length z) m (length y)) (update (channelAt n m i f) z (factoredAt n m i f)))
