@@ -1,23 +1,23 @@
 -- A row of every covariance mixed where it stands, and a loop over the rows. Assumes nothing.
 use mathlib.Core.Path.{_≡_, refl, sym, ap, ap₂, _∙_}
-use mathlib.Core.List.{List, _++_}
+use mathlib.Core.List.{List, [], _∷_, _++_}
 use Prim.Native.Nat.{ℕ, suc, _+_, _*_, _≤_, _<_}
 use native.Mathlib.Nat.{le-trans, mul-le-mul-right, suc-mul, mul-pos}
 use native.Mathlib.Numerals.{add-one}
 use native.Mathlib.Omega.{arith}
 use lib.ListN.{length, replicate}
 use lib.Ieee.{Float, nan}
-use Rattle.scalar.specs.Number.{+0}
+use Rattle.scalar.specs.Number.{_⊕_, +0}
 use Rattle.answer.specs.Table.{table, padTo}
 use Rattle.answer.proofs.Tables.{getD-table, table-ext, length-table}
-use Rattle.algebra.specs.Matrix.{Matrix, at, cell, sumOf}
+use Rattle.algebra.specs.Matrix.{Matrix, at, cell, sumFrom, sumOf}
 use Rattle.algebra.specs.Array.{cut}
 use Rattle.algebra.proofs.Matrices.{sum-ext}
 use Rattle.layout.specs.Layout.{vectorAt, joined, modelLength}
 use Rattle.layout.proofs.Rows.{joined-more, length-joined, ends-within}
 use Rattle.imm_steps.specs.Bank.{spreadTerm}
 use Rattle.c_imm.specs.Bank.{series, mixedRowIn}
-use Rattle.c_imm.proofs.Spaced.{spaced-cell}
+use Rattle.c_imm.proofs.Spaced.{spaced-two, spaced-cell}
 use Rattle.c_imm.proofs.Series.{series-same, series-after, series-past, length-series, series-none}
 
 pub length-mixed : (N K step : ℕ) (x m w : Matrix) (b : List Float) (q r j : ℕ) → length (mixedRowIn N K step x m w b q r j) ≡ N
@@ -37,6 +37,15 @@ row-is N K step x m w b q r j {p} small e d =
   where
     F : ℕ → Float
     F c = sumOf K (λ i. spreadTerm (cell p i c) (cell x i r) (cell m j r) (cell x i c) (cell m j c) (cell w i j))
+
+-- and of the rows u and v of two
+pub pair-is : (N step : ℕ) (x m w : Matrix) (b : List Float) (q r j : ℕ) {u v p : List Float} → N ≤ 4 → u ≡ vectorAt 4 b q → v ≡ vectorAt 4 b (q + step)
+    → p ≡ table 4 (λ c. +0 ⊕ spreadTerm (at u c) (cell x 0 r) (cell m j r) (cell x 0 c) (cell m j c) (cell w 0 j)
+    ⊕ spreadTerm (at v c) (cell x 1 r) (cell m j r) (cell x 1 c) (cell m j c) (cell w 1 j))
+    → cut N p ≡ mixedRowIn N 2 step x m w b q r j
+unfolding sumFrom
+pair-is N step x m w b q r j {u} {v} small e f d =
+    row-is N 2 step x m w b q r j {p = u ∷ v ∷ replicate 4 +0 ∷ replicate 4 +0 ∷ []} small (spaced-two (vectorAt 4 b) (replicate 4 +0) q step refl e f) d
 
 -- ---- a loop over the rows: r are mixed, and l is what it has
 module _ (N K : ℕ) (x m w : Matrix) (b : List Float) where

@@ -50,3 +50,12 @@ serial-more {q} {step} {g} {b} {k} {i} {l} {l₁} v h e d =
 
 pub serial-all : {q step : ℕ} {g : ℕ → List Float} {b : List Float} {k i c : ℕ} {l : List Float} → Serial q step g b k i l → k ≤ i → k ≡ c → l ≡ series c q step g b
 serial-all {q} {step} {g} {b} {k} {i} v h e = let all : i ≡ k = omega (arith, v .within) in v .is ∙ ap (λ (j : ℕ). series j q step g b) (all ∙ e)
+
+-- ---- and for two models, without a loop
+pub both-placed : (q step : ℕ) (g : ℕ → List Float) (b : List Float) {u v b₁ b₂ : List Float} → u ≡ g 0 → v ≡ g 1 → b₁ ≡ placed q u b → b₂ ≡ placed (q + step) v b₁ → b₂ ≡ series 2 q step g b
+unfolding series
+both-placed q step g b e f d p =
+    let first : q ≡ q + 0 * step = omega arith in
+    let second : q + step ≡ q + 1 * step = omega arith in
+    let one = d ∙ λ t. placed (first t) (e t) b in
+    p ∙ λ t. placed (second t) (f t) (one t)

@@ -2,7 +2,7 @@
 use mathlib.Core.Path.{_≡_, refl, sym, ap, ap₂, _∙_}
 use mathlib.Core.List.{List, []}
 use mathlib.Core.Bool.{Bool, true, false, cond}
-use Prim.Native.Nat.{ℕ, _+_, _-_, _*_, _≤_}
+use Prim.Native.Nat.{ℕ, _+_, _-_, _*_}
 use native.Mathlib.Omega.{arith}
 use lib.ListN.{length, replicate}
 use lib.Ieee.{Float, lt}
@@ -15,9 +15,8 @@ use Rattle.algebra.proofs.Arrays.{cut-padRow}
 use Rattle.sizes.specs.declared.Size.{Size}
 use Rattle.sizes.specs.Size.{count}
 use Rattle.mixing.specs.Mixing.{Bank, uniform, weighted, updateProbabilities, fusedEstimate}
-use Rattle.layout.specs.Layout.{vectorAt, placed, putAt, modelLength}
+use Rattle.layout.specs.Layout.{vectorAt, placed, modelLength}
 use Rattle.layout.proofs.Places.{placed-whole}
-use Rattle.layout.proofs.Calls.{vector-put}
 use Rattle.imm_steps.specs.Bank.{bankRows}
 use Rattle.imm_steps.proofs.Holders.{fused-held, probabilities-held}
 use Rattle.c_imm.specs.Bank.{probabilitiesPlace, bankAt, modelPlace, covariancesIn, withProbabilities}
@@ -41,10 +40,10 @@ unfolding fusedEstimate weighted
 length-fused n K B = length-table n _
 
 -- numbers put back by the size that the code has
-numbers-put : (s : Size) {k q place : ℕ} (u v b : List Float) {b₁ : List Float} → count s ≡ k → q ≡ place → place + k ≤ length b → length u ≡ k → v ≡ padRow u
-    → b₁ ≡ putAt q (cut (count s) v) b → b₁ ≡ placed place u b
-numbers-put s {k} {q} u v b e d h l p r =
-    vector-put q b v e (omega (arith, d)) r ∙ ap₂ (λ (j : ℕ) (w : List Float). placed j w b) d (ap (cut k) p ∙ cut-padRow k u l)
+numbers-put : (s : Size) {k q place : ℕ} (u v b : List Float) {b₁ : List Float} → count s ≡ k → q ≡ place → length u ≡ k → v ≡ padRow u
+    → b₁ ≡ placed q (cut (count s) v) b → b₁ ≡ placed place u b
+numbers-put s {k} u v b e d l p r =
+    r ∙ ap₂ (λ (j : ℕ) (w : List Float). placed j w b) d (ap₂ (λ (c : ℕ) (w : List Float). cut c w) e p ∙ cut-padRow k u l)
 
 module _ (n m k : ℕ) (b : List Float) (W : Whole n m k (length b)) (sn sk : Size) (en : count sn ≡ n) (ek : count sk ≡ k) {from : ℕ} (ef : from ≡ probabilitiesPlace n m k) where
   abbrev B : Bank
@@ -60,9 +59,9 @@ module _ (n m k : ℕ) (b : List Float) (W : Whole n m k (length b)) (sn sk : Si
   pub updates : {l μ μ′ b₁ : List Float} {q : ℕ} → q ≡ modelLength n → l ≡ padRow (table (count sk) (λ i. at b (q - 1 + i * q)))
       → μ ≡ padRow (table (count sk) (λ i. at b (from + i * 1)))
       → μ′ ≡ padRow (updateProbabilities (count sk) (bankRows sk sk [] [] l μ) .probabilities)
-      → b₁ ≡ putAt from (cut (count sk) μ′) b → b₁ ≡ withProbabilities n m k b (updateProbabilities k B)
+      → b₁ ≡ placed from (cut (count sk) μ′) b → b₁ ≡ withProbabilities n m k b (updateProbabilities k B)
   updates {l} {μ} {μ′} eq e eμ s d =
-      numbers-put sk (updateProbabilities k B .probabilities) μ′ b ek ef (omega (arith, W .long)) (length-updated k B)
+      numbers-put sk (updateProbabilities k B .probabilities) μ′ b ek ef (length-updated k B)
       (s ∙ ap padRow (probabilities-held sk B l μ ek (likelihoods-are eq e) (probabilities-are eμ))) d
 
   -- ---- the fused state
@@ -70,8 +69,8 @@ module _ (n m k : ℕ) (b : List Float) (W : Whole n m k (length b)) (sn sk : Si
       → x ≡ padTo 4 (replicate 4 +0) (table (count sk) (λ i. vectorAt 4 b (n * n + i * l)))
       → μ ≡ padRow (table (count sk) (λ i. at b (from + i * 1)))
       → v ≡ padRow (weighted (count sn) (count sk) (bankRows sn sk x [] [] []) (cut (count sk) μ)) → length o ≡ n
-      → o₁ ≡ putAt 0 (cut (count sn) v) o → o₁ ≡ fusedEstimate n k B
+      → o₁ ≡ placed 0 (cut (count sn) v) o → o₁ ≡ fusedEstimate n k B
   fuses {x} {μ} {v} o el ex eμ s l d =
       let h = held-of n m k b W sn sk en ek x (covariancesIn (count sn) (count sk) b) (states-read n m k b W sn sk en ek el ex) (covariance-read n m k b W sn sk en ek refl) in
-      numbers-put sn (fusedEstimate n k B) v o en refl (omega (arith, l)) (length-fused n k B) (s ∙ ap padRow (fused-held h μ (probabilities-are eμ))) d
+      numbers-put sn (fusedEstimate n k B) v o en refl (length-fused n k B) (s ∙ ap padRow (fused-held h μ (probabilities-are eμ))) d
       ∙ placed-whole (fusedEstimate n k B) o (length-fused n k B ∙ sym l)

@@ -234,6 +234,31 @@ fn put_rows(bank: &mut [f64], q: usize, step: usize, m: &[[f64; 4]; 4], n: Size,
     }
 }
 
+// Row r of both covariances of two models, which stand from number q on, mixed.
+fn mix_pair<'a>(
+    bank: &mut [f64],
+    x: &'a [[f64; 4]; 4],
+    m: &'a [[f64; 4]; 4],
+    w: &'a [[f64; 4]; 4],
+    r: usize,
+    q: usize,
+    step: usize,
+    n: Size,
+)
+    requires { ⌜ (r < 4) × (((q ≤ 212) × (step ≤ 53)) × (q + 2 * step + 4 ≤ length (now bank) + step)) ⌝ }
+    ensures { λ u. ⌜
+        now (bank .exit)
+        ≡ series 2 q step
+        (mixedRowIn (count n) 2 step (now (x .entry)) (now (m .entry)) (now (w .entry)) (now (bank .entry)) q r) (now (bank .entry)) ⌝ }
+{
+    let a = four_at(bank, q);
+    let b = four_at(bank, q + step);
+    let first = spread::mixed_pair(a, b, x, m[0], w, 0, r);
+    let second = spread::mixed_pair(a, b, x, m[1], w, 1, r);
+    put_row(bank, q, first, n);
+    put_row(bank, q + step, second, n);
+}
+
 // Row r of every covariance, which stand from number q on, mixed: x are the states, m the mixed ones, w the weights.
 fn mix_row<'a>(
     bank: &mut [f64],
@@ -252,8 +277,12 @@ fn mix_row<'a>(
         ≡ series (count k) q step
         (mixedRowIn (count n) (count k) step (now (x .entry)) (now (m .entry)) (now (w .entry)) (now (bank .entry)) q r) (now (bank .entry)) ⌝ }
 {
-    let p = rows_at(bank, q, step, k);
     let models = number(k);
+    if models == 2 {
+        mix_pair(bank, x, m, w, r, q, step, n);
+        return;
+    }
+    let p = rows_at(bank, q, step, k);
     for j in 0..models {
         let row = spread::mixed_row(&p, x, m, w, j, r, k);
         put_row(bank, q + j * step, row, n);
@@ -338,7 +367,7 @@ pub fn imm_update_probabilities(n: usize, m: usize, k: usize, bank: &mut [f64]) 
         let l = numbers_at(bank, length - 1, length, sk);
         let mut mu = numbers_at(bank, from, 1, sk);
         imm_steps::update_probabilities(l, sk, &mut mu);
-        layout::put_vector(bank, from, mu, sk);
+        put_row(bank, from, mu, sk);
         0
     } else {
         1
@@ -358,7 +387,7 @@ pub fn imm_fused_estimate(n: usize, m: usize, k: usize, bank: &[f64], out: &mut 
             let x = rows_at(bank, n * n, model_length(n), sk);
             let mu = numbers_at(bank, probabilities_place(n, m, k), 1, sk);
             let fused = imm_steps::weighted(&x, mu, sn, sk);
-            layout::put_vector(out, 0, fused, sn);
+            put_row(out, 0, fused, sn);
             return 0;
         }
     }

@@ -52,3 +52,23 @@ pub(crate) fn mixed_row<'a>(
     }
     plus_spread(s3, p[3], x[3], m[j], x[3][r] - y, w[3][j])
 }
+
+// Row r of the covariance of model j of two, mixed from their rows a and b: m is its mixed state.
+pub(crate) fn mixed_pair<'a>(
+    a: [f64; 4],
+    b: [f64; 4],
+    x: &'a [[f64; 4]; 4],
+    m: [f64; 4],
+    w: &'a [[f64; 4]; 4],
+    j: usize,
+    r: usize,
+) -> [f64; 4]
+    requires { ⌜ (j < 4) × (r < 4) ⌝ }
+    ensures { λ v. ⌜
+        v ≡ table 4 (λ c. +0 ⊕ spreadTerm (at a c) (cell (now (x .entry)) 0 r) (at m r) (cell (now (x .entry)) 0 c) (at m c) (cell (now (w .entry)) 0 j)
+        ⊕ spreadTerm (at b c) (cell (now (x .entry)) 1 r) (at m r) (cell (now (x .entry)) 1 c) (at m c) (cell (now (w .entry)) 1 j)) ⌝ }
+{
+    let y = m[r];
+    let s1 = plus_spread([0.0; 4], a, x[0], m, x[0][r] - y, w[0][j]);
+    plus_spread(s1, b, x[1], m, x[1][r] - y, w[1][j])
+}

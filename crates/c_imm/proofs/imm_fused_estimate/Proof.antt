@@ -47,7 +47,7 @@ returns c =
     let z = well-sized _ _ _ (test w .sizes) in
     let e = sym (w .before .is-bank .ensures) ∙ w .if1 .taken in
     let is = fuses (a .n) (a .m) (a .k) (a .bank .now) (test w) (sn .size-of .result) (sk .size-of2 .result) (is-count (z .states) (sn .size-of .ensures)) (is-count (z .inputs) (sk .size-of2 .ensures))
-    (f .probabilities-place .ensures .0) (a .out .now) (q .model-length .ensures .0) (x .rows-at .ensures) (mu .numbers-at .ensures) (v .weighted .ensures) (two .if2 .taken) (put .put-vector .ensures) in
+    (f .probabilities-place .ensures .0) (a .out .now) (q .model-length .ensures .0) (x .rows-at .ensures) (mu .numbers-at .ensures) (v .weighted .ensures) (two .if2 .taken) (put .put-row .ensures) in
     (λ j. (0, is j)) ∙ ap (by (a .n) (a .m) (a .k) (a .bank .now) (a .out .now)) (sym (λ i. e i && eq-eqb (length (a .out .now)) (a .n) (two .if2 .taken) i))
 
 returns-2 : tie.Need-returns-2
@@ -86,8 +86,16 @@ probable c κs =
     let w = test (s .before .before .before) in
     ((c .probabilities-place .ensures .1, omega arith), omega (arith, models s, w .long, c .probabilities-place .ensures .0))
 
+-- and there is room for the fused state
+room : tie.Need-put-row-requires
+room c κs =
+    let sn = c .before .before .before .before .before .before .before .before in
+    let two = sn .before in
+    let states = is-count (well-sized _ _ _ (test (two .before) .sizes) .states) (sn .size-of .ensures) in
+    (omega arith, omega (arith, states, two .if2 .taken))
+
 pub imm-fused-estimate-spec : {M : Type 1} → statement M
 imm-fused-estimate-spec =
     tie.close
     (tie.spec (λ c κs. search needs) (λ c κs. search needs) (λ c κs. search needs) (λ c. omega (arith, test (c .before .before .before) .few)) (λ c κs. test (c .before .before .before) .few .states)
-    rows (λ c κs. test (c .before .before .before .before .before) .sizes) probable (λ c κs. search needs) (λ c κs. search needs) (λ c. search needs) returns returns-2 returns-3)
+    rows (λ c κs. test (c .before .before .before .before .before) .sizes) probable (λ c κs. search needs) room (λ c. search needs) returns returns-2 returns-3)

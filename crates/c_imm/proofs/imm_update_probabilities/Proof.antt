@@ -41,7 +41,7 @@ returns c =
     let a = w .before .before .before .args in
     let z = well-sized _ _ _ (test w .sizes) in
     let is = updates (a .n) (a .m) (a .k) (a .bank .now) (test w) (sizeOf (a .n)) (sk .size-of .result) (is-count (z .states) refl) (is-count (z .inputs) (sk .size-of .ensures))
-    (f .probabilities-place .ensures .0) (q .model-length .ensures .0) (l .numbers-at .ensures) (mu .numbers-at2 .ensures) (u .update-probabilities .ensures) (put .put-vector .ensures) in
+    (f .probabilities-place .ensures .0) (q .model-length .ensures .0) (l .numbers-at .ensures) (mu .numbers-at2 .ensures) (u .update-probabilities .ensures) (put .put-row .ensures) in
     (λ j. (0, is j)) ∙ ap (by (a .n) (a .m) (a .k) (a .bank .now)) (sym (sym (w .before .is-bank .ensures) ∙ w .if1 .taken))
 
 returns-2 : tie.Need-returns-2
@@ -66,8 +66,15 @@ probable c κs =
     let w = test (f .before) in
     ((f .probabilities-place .ensures .1, omega arith), omega (arith, models q, w .long, f .probabilities-place .ensures .0))
 
+-- and there is room for them
+room : tie.Need-put-row-requires
+room c κs =
+    let q = c .before .before .before .before .before .before .before in
+    let f = q .before .before in
+    (omega (arith, f .probabilities-place .ensures .1), omega (arith, models q, test (f .before) .long, f .probabilities-place .ensures .0))
+
 pub imm-update-probabilities-spec : {M : Type 1} → statement M
 imm-update-probabilities-spec =
     tie.close
     (tie.spec (λ c κs. search needs) (λ c κs. test c .sizes) (λ c κs. search needs) (λ c κs. test (c .before .before) .few .states) (λ c. omega (arith, c .before .model-length .ensures .0))
-    likely probable (λ c κs. search needs) (λ c κs. search needs) (λ c. search needs) returns returns-2)
+    likely probable (λ c κs. search needs) room (λ c. search needs) returns returns-2)
