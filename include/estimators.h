@@ -40,8 +40,7 @@
  * Every call ends. Stack on x86-64, without what memcpy and memset use (tools/stack lists every function):
  *   estimators_sheet_report                   below 32 KB
  *   estimators_rts_smoother_smooth            below 13 KB, whatever its room
- *   estimators_imm_mix_estimates              below 3 KB
- *   every other function           below 2 KB
+ *   every other function                      below 3 KB
  */
 #ifndef ESTIMATORS_H
 #define ESTIMATORS_H

@@ -43,15 +43,16 @@ fn numbers<const N: usize>(bank: &Bank<N>) -> Vec<f64> {
     [model(&bank.models[0]), model(&bank.models[1]), shared].concat()
 }
 
-fn accepted(status: u8) {
-    assert!(black_box(status) == 0, "the port refused a call of the bench with {status}");
-}
-
 fn port<const N: usize>(bank: &mut [f64], out: &mut [f64]) {
     let (at, len) = (bank.as_mut_ptr(), bank.len());
-    accepted(unsafe { estimators_imm_mix_estimates(N, 1, 2, at, len) });
-    accepted(unsafe { estimators_imm_update_probabilities(N, 1, 2, at, len) });
-    accepted(unsafe { estimators_imm_fused_estimate(N, 1, 2, at, len, out.as_mut_ptr(), out.len()) });
+    let statuses = unsafe {
+        [
+            estimators_imm_mix_estimates(N, 1, 2, at, len),
+            estimators_imm_update_probabilities(N, 1, 2, at, len),
+            estimators_imm_fused_estimate(N, 1, 2, at, len, out.as_mut_ptr(), out.len()),
+        ]
+    };
+    assert!(black_box(statuses) == [0, 0, 0], "the port refused a call of the bench");
 }
 
 pub fn mixing<const N: usize>() {
