@@ -45,14 +45,12 @@ fn numbers<const N: usize>(bank: &Bank<N>) -> Vec<f64> {
 
 fn port<const N: usize>(bank: &mut [f64], out: &mut [f64]) {
     let (at, len) = (bank.as_mut_ptr(), bank.len());
-    let statuses = unsafe {
-        [
-            estimators_imm_mix_estimates(N, 1, 2, at, len),
-            estimators_imm_update_probabilities(N, 1, 2, at, len),
-            estimators_imm_fused_estimate(N, 1, 2, at, len, out.as_mut_ptr(), out.len()),
-        ]
+    let told = unsafe {
+        estimators_imm_mix_estimates(N, 1, 2, at, len)
+            | estimators_imm_update_probabilities(N, 1, 2, at, len)
+            | estimators_imm_fused_estimate(N, 1, 2, at, len, out.as_mut_ptr(), out.len())
     };
-    assert!(black_box(statuses) == [0, 0, 0], "the port refused a call of the bench");
+    assert!(black_box(told) == 0, "the port refused a call of the bench");
 }
 
 pub fn mixing<const N: usize>() {

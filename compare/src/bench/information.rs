@@ -55,13 +55,11 @@ impl Port {
         let [n, m, i] = self.sizes;
         let (cells, len) = (self.cells.as_mut_ptr(), self.cells.len());
         let (to, to_len) = (self.innovation.as_mut_ptr(), self.innovation.len());
-        let statuses = unsafe {
-            [
-                estimators_information_predict(n, m, i, cells, len, u.as_ptr(), u.len()),
-                estimators_information_update(n, m, i, cells, len, z.as_ptr(), z.len(), to, to_len),
-            ]
+        let told = unsafe {
+            estimators_information_predict(n, m, i, cells, len, u.as_ptr(), u.len())
+                | estimators_information_update(n, m, i, cells, len, z.as_ptr(), z.len(), to, to_len)
         };
-        assert!(black_box(statuses) == [0, 0], "the port refused a call of the bench");
+        assert!(black_box(told) == 0, "the port refused a call of the bench");
     }
 }
 

@@ -49,13 +49,11 @@ fn cells<const N: usize, const M: usize, const I: usize>(filter: &Filter<N, M, I
 
 fn port<const N: usize, const M: usize, const I: usize>(filter: &mut [f64], u: &[f64; I], z: &[f64; M]) {
     let (to, len, mut y) = (filter.as_mut_ptr(), filter.len(), [0.0; M]);
-    let statuses = unsafe {
-        [
-            estimators_sqrt_kalman_predict(N, M, I, to, len, u.as_ptr(), I),
-            estimators_sqrt_kalman_update(N, M, I, to, len, z.as_ptr(), M, y.as_mut_ptr(), M),
-        ]
+    let told = unsafe {
+        estimators_sqrt_kalman_predict(N, M, I, to, len, u.as_ptr(), I)
+            | estimators_sqrt_kalman_update(N, M, I, to, len, z.as_ptr(), M, y.as_mut_ptr(), M)
     };
-    assert!(black_box(statuses) == [0, 0], "the port refused a call of the bench");
+    assert!(black_box(told) == 0, "the port refused a call of the bench");
     black_box(y);
 }
 
