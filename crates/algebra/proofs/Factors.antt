@@ -15,7 +15,7 @@ use Rattle.algebra.specs.Matrix.{Vector, Matrix, at, row, cell, dot}
 use Rattle.algebra.specs.Array.{used}
 use Rattle.answer.proofs.Tables.{length-pad_to}
 use Rattle.algebra.proofs.Matrices.{Shape, shape-more}
-use Rattle.answer.proofs.Answers.{Told, result, number_of, result_of, told_if, told-then, told-mapped}
+use Rattle.answer.proofs.Answers.{Told, result, number_of_lem, result_of, told_if, told-then, told-mapped}
 use Rattle.algebra.proofs.Arrays.{cell-used}
 use Rattle.algebra.proofs.Vectors.{dot_ext}
 use Rattle.algebra.specs.Cholesky.{no_diagonal, diagonal_of, left_cells, factor_row, factor_rows, cholesky}
@@ -52,7 +52,7 @@ shape-cholesky n A L e = shape-rows n A n L (le_refl n) e
 
 pub refused-cholesky : (n : ℕ) (A : Matrix) (k : ℕ) → cholesky n A ≡ refused k → k ≡ 4
 unfolding cholesky
-refused-cholesky n A k e = number_of (told-rows n A n (le_refl n)) e
+refused-cholesky n A k e = number_of_lem (told-rows n A n (le_refl n)) e
 
 -- ---- what is read: of A the lower triangle, and of the rows above what stands up to their diagonals
 pub left_ext : (a b : Vector) (L M : Matrix) (i : ℕ) → ((j : ℕ) → j < i → at a j ≡ at b j) → ((j k : ℕ) → j < i → k ≤ j → cell L j k ≡ cell M j k)

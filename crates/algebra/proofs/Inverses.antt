@@ -10,7 +10,7 @@ use Rattle.algebra.specs.Matrix.{Matrix, cell, identity}
 use Rattle.algebra.specs.Array.{used}
 use Rattle.algebra.proofs.Matrices.{Shape, shape-mat, shape-identity, mat_ext}
 use Rattle.algebra.proofs.Arrays.{cell-used}
-use Rattle.answer.proofs.Answers.{Told, result, number_of, result_of, told_if, told-then, told-mapped}
+use Rattle.answer.proofs.Answers.{Told, result, number_of_lem, result_of, told_if, told-then, told-mapped}
 use Rattle.algebra.specs.Inverse.{no_pivot, pivot_row, swapped, reduced, Augmented, ◌beside◌, exchanged, cleared, column, columns, inv}
 use Rattle.algebra.proofs.Pivots.{pivot-within, pivot_ext}
 
@@ -64,7 +64,7 @@ unfolding inv
 told-inv n A = told-mapped (λ w. w.right) (told-columns n n A) (λ w s. s)
 
 pub inv-refused : (n : ℕ) (A : Matrix) (k : ℕ) → inv n A ≡ refused k → k ≡ 3
-inv-refused n A k e = number_of (told-inv n A) e
+inv-refused n A k e = number_of_lem (told-inv n A) e
 
 pub inv-shape : (n : ℕ) (A B : Matrix) → inv n A ≡ answered B → Shape n n B
 inv-shape n A B e = result_of (told-inv n A) e

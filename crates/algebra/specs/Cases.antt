@@ -20,7 +20,7 @@ pub record Cases : Type 0 where
   -- the square root
   pub root_of_4 : root n4 ≡ n2
   pub root_of_2 : root n2 ≡ √2
-  pub root_of_least : root least ≡ root_of_least
+  pub root_of_smallest : root least ≡ root_of_least
   pub root_of_minus-zero : root −0 ≡ −0
   -- a product's sum starts at +0
   pub mul_of_minus-zero : mul 1 1 1 (one_by_one −0) (one_by_one n1) ≡ one_by_one n0
@@ -34,7 +34,7 @@ pub record Cases : Type 0 where
   pub pivot_nan_below : pivot_row (two_by_two n1 n0 nan n0) 0 1 ≡ 0
   pub pivot_nan_above : pivot_row (two_by_two nan n0 n1 n0) 0 1 ≡ 0
   -- a magnitude of just the limit is no refusal, and the number before it is one
-  pub limit_of_pivots : limit ≡ limit_of_pivots
+  pub limit_is : limit ≡ limit_of_pivots
   pub pivot_at_limit : no_pivot limit_of_pivots ≡ false
   pub pivot-below-limit : no_pivot before_limit ≡ true
   -- Cholesky's factor: the upper triangle, 9, is not read; what is left of a diagonal is zero; a NaN passes; -0 less a sum from +0 on stays -0

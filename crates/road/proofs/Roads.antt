@@ -41,6 +41,6 @@ module _ (h0 h1 r z : Float) (e : Pair) where
   when_refused q = inverted q
 
 -- the two parts of an update, where an innovation is told
-pub corrected_by : (h0 h1 w : Float) (e : Estimate) {y : Float} {g : Estimate} {a : ScalarResult} {t : ScalarResult × Estimate} → a ≡ Scalar.Value y → g ≡ corrected_of h0 h1 e y w
+pub corrected_by_lem : (h0 h1 w : Float) (e : Estimate) {y : Float} {g : Estimate} {a : ScalarResult} {t : ScalarResult × Estimate} → a ≡ Scalar.Value y → g ≡ corrected_of h0 h1 e y w
     → (a, corrected_by h0 h1 e a w) ≡ t → (a, g) ≡ t
-corrected_by h0 h1 w e {a = a} q f s = (λ i. (a, (f ∙ ap (λ (b : ScalarResult). corrected_by h0 h1 e b w) (sym q)) i)) ∙ s
+corrected_by_lem h0 h1 w e {a = a} q f s = (λ i. (a, (f ∙ ap (λ (b : ScalarResult). corrected_by h0 h1 e b w) (sym q)) i)) ∙ s

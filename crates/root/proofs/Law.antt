@@ -18,7 +18,7 @@ use Rattle.root.specs.Weights.{hidden, past53, past54, infinity}
 use Rattle.root.specs.Root.{root, root_of, as_whole, isqrt, nearest_root}
 use Rattle.root.specs.Nearest.{next_down, next_up, Nearest, CorrectlyRounded}
 use Rattle.root.proofs.Whole.{IsRoot, near_low, near_high}
-use Rattle.root.proofs.Scaled.{lead, split, root_of_at, lead-bounds, root_of, root-bounds, four-pow}
+use Rattle.root.proofs.Scaled.{lead, split, root_of_at, lead-bounds, root_of_lem, root-bounds, four-pow}
 use Rattle.root.proofs.Shift.{Shifted, shifted}
 use Rattle.root.proofs.Patterns.{at_normal, positive_odd, root-positive, as_whole_odd}
 use Rattle.root.proofs.Grid.{val, val-normal, val_subnormal, val-next, val_mono, bits_range, bits_back}
@@ -180,8 +180,8 @@ nearest_at x is_pos p =
     record {
       is_positive = positive_odd q k (lt_of_lt_of_le (lit< tt) lo);
       is_held = R-fits q k lo hi kl kh;
-      over = subst (λ (w : ℕ). (as_whole (next_down (odd 53 false q k 1074)) + as_whole (odd 53 false q k 1074)) * (as_whole (next_down (odd 53 false q k 1074)) + as_whole (odd 53 false q k 1074)) < w) four (over_at q k lo hi kl kh a s (root_of (a * 4) b) refl b.0);
-      under = subst (λ (w : ℕ). w < (as_whole (odd 53 false q k 1074) + as_whole (next_up (odd 53 false q k 1074))) * (as_whole (odd 53 false q k 1074) + as_whole (next_up (odd 53 false q k 1074)))) four (under_at q k lo hi kl kh a s (root_of (a * 4) b) refl b.0);
+      over = subst (λ (w : ℕ). (as_whole (next_down (odd 53 false q k 1074)) + as_whole (odd 53 false q k 1074)) * (as_whole (next_down (odd 53 false q k 1074)) + as_whole (odd 53 false q k 1074)) < w) four (over_at q k lo hi kl kh a s (root_of_lem (a * 4) b) refl b.0);
+      under = subst (λ (w : ℕ). w < (as_whole (odd 53 false q k 1074) + as_whole (next_up (odd 53 false q k 1074))) * (as_whole (odd 53 false q k 1074) + as_whole (next_up (odd 53 false q k 1074)))) four (under_at q k lo hi kl kh a s (root_of_lem (a * 4) b) refl b.0);
     }
   where
     half_lo : (s : ℕ) → past53 ≤ s → hidden ≤ (s + 1) / 2

@@ -91,12 +91,12 @@ module _ (m e : ℕ) (lo : hidden ≤ m) (hi : m < past53) where
   ]
 
 -- ---- the root of 4 * a has 54 digits, and is not the largest such number: so rounding up stays within 53
-pub root_of : (a4 : ℕ) → Bounds a4 → IsRoot a4 (isqrt 54 a4)
-root_of a4 b = isqrt_is 54 a4 (lt_of_le_of_lt b.1 (lit< tt))
+pub root_of_lem : (a4 : ℕ) → Bounds a4 → IsRoot a4 (isqrt 54 a4)
+root_of_lem a4 b = isqrt_is 54 a4 (lt_of_le_of_lt b.1 (lit< tt))
 
 pub root-bounds : (a4 : ℕ) → Bounds a4 → (past53 ≤ isqrt 54 a4) × (isqrt 54 a4 ≤ (past54 - 2))
 root-bounds a4 b =
-    let r = root_of a4 b in
+    let r = root_of_lem a4 b in
     (square_le past53 (isqrt 54 a4) (lt_of_le_of_lt b.0 r.1), square_le (isqrt 54 a4) (past54 - 2) (lt_of_le_of_lt (le_trans r.0 b.1) (lit< tt)))
 
 -- ---- as the code has it: s is the whole root

@@ -25,7 +25,7 @@ use Rattle.sheets.proofs.Counts.{Few, sheet-counted}
 use Rattle.sheets.proofs.Printing.{metres-long}
 use Rattle.sheets.proofs.Printed.{tracked-long}
 use Rattle.sheet_text.specs.Held.{whole_of, number_of}
-use Rattle.sheet_text.proofs.Fields.{number_of}
+use Rattle.sheet_text.proofs.Fields.{number_of_lem}
 use Rattle.sheet_reader.specs.Held.{no_reading, reading_held, this_sheet, sheet_held}
 use Rattle.sheet_reader.specs.declared.SheetRead.{SheetRead}
 use Rattle.sheet_reader.specs.declared.Reading as Read
@@ -58,12 +58,12 @@ over m n z vs l h =
 
 map-number : (zs : List ℤ) → map number_of (map whole_of zs) ≡ zs
 map-number [] = refl
-map-number (z ∷ zs) = rw (number_of z, map-number zs)
+map-number (z ∷ zs) = rw (number_of_lem z, map-number zs)
 
 -- what the tracker is handed is what the definition reads
 measured-held : (o : Option ℤ) → reading_of (float_reading (reading_held o)) ≡ measured_of o
 measured-held none = refl
-measured-held (some z) = rw (number_of z)
+measured-held (some z) = rw (number_of_lem z)
 
 measured : (os : List (Option ℤ)) → map reading_of (map float_reading (map reading_held os)) ≡ map measured_of os
 measured [] = refl

@@ -11,7 +11,7 @@ use Rattle.sheets.specs.Sheet.{end_test, end_of, read_ends}
 use Rattle.sheets.proofs.Verdicts.{and_left, and_right, and_false}
 use Rattle.sheet_text.specs.Held.{whole_of, number_of}
 use Rattle.sheet_text.specs.declared.Whole.{Whole}
-use Rattle.sheet_text.proofs.Fields.{number_of, size_of}
+use Rattle.sheet_text.proofs.Fields.{number_of_lem, size_of}
 use Rattle.sheet_reader.specs.Held.{filled, no_ends, these_ends, ends_held}
 use Rattle.sheet_reader.proofs.Fill as Fill
 
@@ -47,7 +47,7 @@ module _ (s : List ℕ) (n : ℕ) (e : List ℕ) (before i : ℕ) (r : Rest s n 
     module _ (h : i < n) (f : form 1 s (41 + 9 * i) ≡ true) (t : Bool) (g : t ≡ in_range 1 9999999 (number_of w)) where
       range : in_range 1 9999999 z ≡ t
       unfolding z
-      range = sym (g ∙ rw (q, number_of (or_zero (field_at s (41 + 9 * i)))))
+      range = sym (g ∙ rw (q, number_of_lem (or_zero (field_at s (41 + 9 * i)))))
 
       out : end_test (pos before ∷ []) (z ∷ []) ≡ false → ends_held (read_ends n s) ≡ no_ends 8 (2 + i)
       unfolding values z

@@ -9,7 +9,7 @@ use Rattle.sheets.specs.Sheet.{head_in_range, head_test, read_head}
 use Rattle.sheets.proofs.Lines.{lines_bad, lines-out, lines_step}
 use Rattle.sheet_text.specs.Held.{whole_of, number_of}
 use Rattle.sheet_text.specs.declared.Whole.{Whole}
-use Rattle.sheet_text.proofs.Fields.{number_of, size_of}
+use Rattle.sheet_text.proofs.Fields.{number_of_lem, size_of}
 use Rattle.sheet_reader.specs.Held.{no_head, head_held}
 
 module _ (s : List ℕ) where
@@ -24,7 +24,7 @@ module _ (s : List ℕ) where
       (t : Bool) (q : t ≡ head_in_range (number_of a) (number_of b) (number_of c) (number_of d) (number_of e)) where
     same : head_test [] (values 5 s 0) ≡ t
     unfolding values
-    same = sym (q ∙ rw (pa, pb, pc, pd, pe, number_of (at 0), number_of (at 8), number_of (at 16), number_of (at 24), number_of (at 32)))
+    same = sym (q ∙ rw (pa, pb, pc, pd, pe, number_of_lem (at 0), number_of_lem (at 8), number_of_lem (at 16), number_of_lem (at 24), number_of_lem (at 32)))
 
     pub head-out : t ≡ false → head_held (read_head s) ≡ no_head 8 1
     head-out h = rw (lines-out 5 head_test 0 [] 1 0 s f (same ∙ h))

@@ -14,7 +14,7 @@ use Rattle.sheets.specs.Sheet.{reading_in_range, reading_test, is_zero, reading_
 use Rattle.sheets.proofs.Verdicts.{and_r}
 use Rattle.sheet_text.specs.Held.{whole_of, number_of}
 use Rattle.sheet_text.specs.declared.Whole.{Whole}
-use Rattle.sheet_text.proofs.Fields.{number_of}
+use Rattle.sheet_text.proofs.Fields.{number_of_lem}
 use Rattle.sheet_reader.specs.Held.{filled, no_reading, reading_held, no_readings, these_readings, readings_held}
 use Rattle.sheet_reader.specs.declared.Reading.{Reading}
 use Rattle.sheet_reader.specs.declared.parts.Readings.{Readings}
@@ -86,7 +86,7 @@ module _ (s : List ℕ) (n first from : ℕ) where
 
       same : reading_in_range kind metres ≡ t
       unfolding kind metres
-      same = sym (q ∙ rw (pk, pw, number_of (or_zero (field_at s (from + 17 * i))), number_of (or_zero (field_at s (from + 17 * i + 8)))))
+      same = sym (q ∙ rw (pk, pw, number_of_lem (or_zero (field_at s (from + 17 * i))), number_of_lem (or_zero (field_at s (from + 17 * i + 8)))))
 
       pub left_out : t ≡ false → whole ≡ no_readings 8 (first + i)
       unfolding values kind metres
@@ -95,7 +95,7 @@ module _ (s : List ℕ) (n first from : ℕ) where
       pub left_step : t ≡ true → (taken : Bool) → taken ≡ in_range 1 1 (number_of k) → Left (set e i (record { taken = taken; metres = w })) (i + 1)
       unfolding values kind metres
       left_step u taken o =
-          let x : taken ≡ in_range 1 1 kind = o ∙ rw (pk, number_of (or_zero (field_at s (from + 17 * i)))) in
+          let x : taken ≡ in_range 1 1 kind = o ∙ rw (pk, number_of_lem (or_zero (field_at s (from + 17 * i)))) in
           let v : record { taken = taken; metres = w } ≡ row (kind ∷ metres ∷ []) = rw pw (row-held kind metres taken (same ∙ u) x) in
           let y = Fill.fill_step no_readings these_readings row 2 reading_test n first from s whole e [] i r h f (same ∙ u) in
           y ∙ rw v (ap (filled no_readings these_readings row _ (i + 1)) (any_before (n - (i + 1)) _ [] (first + (i + 1)) (from + 17 * (i + 1))))

@@ -69,9 +69,9 @@ write_plain true (suc m) h = absurd (let q : suc m ≡ 0 = h refl in omega arith
 
 -- ---- numbers and ranges
 
-pub number_of : (z : ℤ) → number_of (whole_of z) ≡ z
-number_of (pos m) = refl
-number_of (negsuc n) = refl
+pub number_of_lem : (z : ℤ) → number_of (whole_of z) ≡ z
+number_of_lem (pos m) = refl
+number_of_lem (negsuc n) = refl
 
 pub size_of : (z : ℤ) → (whole_of z).size ≡ nat_abs z
 size_of (pos m) = refl

@@ -33,8 +33,8 @@ unfolding bare
 length-bare [] = refl
 length-bare (z ∷ zs) = rw (length-append (write_field z) (bare zs), length-field z, length-bare zs) (omega arith)
 
-field_at : (p q : List ℕ) (z : ℤ) (at : ℕ) → length p ≡ at → holds z ≡ true → field_at (p ++ (write_field z ++ q)) at ≡ some z
-field_at p q z at l h = rw (drop_at p (write_field z ++ q) at l, take_at (write_field z) q 8 (length-field z)) (field_back z h)
+field_at_lem : (p q : List ℕ) (z : ℤ) (at : ℕ) → length p ≡ at → holds z ≡ true → field_at (p ++ (write_field z ++ q)) at ≡ some z
+field_at_lem p q z at l h = rw (drop_at p (write_field z ++ q) at l, take_at (write_field z) q 8 (length-field z)) (field_back z h)
 
 fields_back : (p q : List ℕ) (zs : List ℤ) (at : ℕ) → length p ≡ at → Fitting zs
     → (fields_read (length zs) (p ++ (bare zs ++ q)) at ≡ true) × (values (length zs) (p ++ (bare zs ++ q)) at ≡ zs)
@@ -45,7 +45,7 @@ fields_back p q (z ∷ zs) at l (one_more h f) =
     let m : length (p ++ write_field z) ≡ at + 8 = rw (length-append p (write_field z), length-field z, l) in
     let g : p ++ (write_field z ++ (bare zs ++ q)) ≡ (p ++ write_field z) ++ (bare zs ++ q) = sym (append_assoc p (write_field z) (bare zs ++ q)) in
     let ih = fields_back (p ++ write_field z) q zs (at + 8) m f in
-    let b : field_at (p ++ (write_field z ++ (bare zs ++ q))) at ≡ some z = field_at p (bare zs ++ q) z at l h in
+    let b : field_at (p ++ (write_field z ++ (bare zs ++ q))) at ≡ some z = field_at_lem p (bare zs ++ q) z at l h in
     (rw (e, b, g) ih.0, rw (e, b, g, ih.1))
 
 -- a line that was written has its form, and its numbers are those written

@@ -19,7 +19,7 @@ binary-exact = record {
   root-times = own;
   not_above = refl;
   above = passed;
-  no_pivot = refl;
+  no_pivot_of_zero = refl;
 }
   where
     passed : (x : Bool) → not x ≡ false → not (x && true) ≡ false

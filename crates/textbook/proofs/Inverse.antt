@@ -107,7 +107,7 @@ module _ (N : Arithmetic) (X : Exact N) (n : ℕ) where
         test x = N.no_pivot (N.magnitude x)
 
         nonzero : pivot ≡ N.nought → ⊥
-        nonzero e = never (sym passes ∙ ap test (sym pivot_is ∙ e) ∙ X.no_pivot)
+        nonzero e = never (sym passes ∙ ap test (sym pivot_is ∙ e) ∙ X.no_pivot_of_zero)
 
     swap-op : R.RowOp N X n
     swap-op = R.swapping N X n p c hp hc

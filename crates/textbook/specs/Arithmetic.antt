@@ -60,4 +60,4 @@ pub record Exact (N : Arithmetic) : Type 0 where
   pub root-times : (x : N.Num) → N.at_most x N.nought ≡ false → N.times (N.root x) (N.root x) ≡ x
   pub not_above : N.at_most N.nought N.nought ≡ true
   pub above : (x : N.Num) → N.no_diagonal x ≡ false → N.at_most x N.nought ≡ false
-  pub no_pivot : N.no_pivot (N.magnitude N.nought) ≡ true
+  pub no_pivot_of_zero : N.no_pivot (N.magnitude N.nought) ≡ true

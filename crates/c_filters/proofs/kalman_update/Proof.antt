@@ -7,7 +7,7 @@ use lib.ListN.{length}
 use borrow.Author.Tests.{eqb-true}
 use Rattle.answer.proofs.Choice.{and_left, and_right}
 use Rattle.road.specs.Road.{estimate_of}
-use Rattle.road.proofs.Roads.{corrected_by}
+use Rattle.road.proofs.Roads.{corrected_by_lem}
 use Rattle.c_copies.specs.Filter.{is_road, update_in}
 use borrow.Author.Rules.{rules}
 use Rattle.c_roads.proofs.Roads.{Road, road_of, road_read, pair_put, updates, refuses}
@@ -39,7 +39,7 @@ returns c =
     let t = f.before.before in
     let a = t.before.before.before.before.before.before.args in
     let r = f.road-at.result in
-    let s = corrected_by r.h0 r.h1 step.innovation.result.inverse (estimate_of r.pair) told right.corrected.ensures step.innovation.ensures in
+    let s = corrected_by_lem r.h0 r.h1 step.innovation.result.inverse (estimate_of r.pair) told right.corrected.ensures step.innovation.ensures in
     updates a.filter.now a.z.now a.innovation.now (road t) (room t) (road_read a.filter.now (road t).long f.road-at.ensures) s told (pair_put a.filter.now right.corrected.result (road t).long put.put-road.ensures)
 
 returns-2 : tie.Need-returns-2

@@ -18,7 +18,7 @@ returns c =
     let t = s.before in
     let a = t.before.before.before.before.before.args in
     let e = sym t.before.is-square.ensures ∙ t.if1.true in
-    smooth-passed a.n a.room a.count a.slots.now a.transition.now a.output.now e s.size_of.ensures f.matrix_at.ensures pass.smooth.ensures c.number_of.ensures
+    smooth-passed a.n a.room a.count a.slots.now a.transition.now a.output.now e s.size_of.ensures f.matrix_at.ensures pass.smooth.ensures c.number_of_lem.ensures
 
 returns-2 : tie.Need-returns-2
 returns-2 c =

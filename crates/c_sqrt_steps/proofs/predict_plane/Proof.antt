@@ -35,7 +35,7 @@ returns c =
     let s = step_of 4 2 2 (length g.filter.now) 2 (length g.u.now) passed in
     let is = predicts 4 2 2 g.filter.now s.whole refl refl refl refl g.u.now s.same
     a.matrix_at.ensures b.matrix-at2.ensures q.matrix-at3.ensures v.vector_at.ensures x.vector-at2.ensures p.matrix-at4.ensures step.predict.ensures put.put-pair.ensures in
-    (λ j. (c.number_of.ensures j, put.put-pair.new.0)) ∙ is ∙ ap (by g.filter.now g.u.now) (sym passed)
+    (λ j. (c.number_of_lem.ensures j, put.put-pair.new.0)) ∙ is ∙ ap (by g.filter.now g.u.now) (sym passed)
 
 returns-2 : tie.Need-returns-2
 returns-2 c = let g = c.before.before.before.before.args in ap (by g.filter.now g.u.now) (sym (sym c.before.is-step.ensures ∙ c.if1.false))

@@ -44,7 +44,7 @@ returns c =
     let s = test t in
     let is = predicts g.n g.m g.i g.filter.now s.whole sn.size_of.ensures refl si.size-of2.ensures (place s.whole) g.u.now s.same
     a.matrix_at.ensures b.matrix-at2.ensures q.matrix-at3.ensures v.vector_at.ensures x.vector-at2.ensures p.matrix-at4.ensures step.predict.ensures put.put-pair.ensures in
-    (λ j. (c.number_of.ensures j, put.put-pair.new.0)) ∙ is ∙ ap (by g.n g.m g.i g.filter.now g.u.now) (sym (sym t.before.is-step.ensures ∙ t.if1.true))
+    (λ j. (c.number_of_lem.ensures j, put.put-pair.new.0)) ∙ is ∙ ap (by g.n g.m g.i g.filter.now g.u.now) (sym (sym t.before.is-step.ensures ∙ t.if1.true))
 
 returns-2 : tie.Need-returns-2
 returns-2 c = let g = c.before.before.before.before.args in ap (by g.n g.m g.i g.filter.now g.u.now) (sym (sym c.before.is-step.ensures ∙ c.if1.false))

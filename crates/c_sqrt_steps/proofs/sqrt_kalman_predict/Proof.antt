@@ -22,7 +22,7 @@ returns c =
     let a = t.before.before.before.before.args in
     let b = a.filter.now in
     predicts b a.u.now (road t) f.road-at.result (road_read b (road t).long f.road-at.ensures) step.predict.ensures
-    (pair_put b step.predict.result.pair (road t).long put.put-road.ensures) c.number_of.ensures
+    (pair_put b step.predict.result.pair (road t).long put.put-road.ensures) c.number_of_lem.ensures
 
 returns-2 : tie.Need-returns-2
 returns-2 c =

@@ -36,7 +36,7 @@ swept-1 c =
     let tested = c.before.before.before.before in
     let b = tested.before.before in
     sweeping_more (swept b.before.before.before) (omega (arith, (start_1 c).requires)) b.bring-pivot.ensures
-    (sym tested.no_pivot.ensures ∙ c.before.before.before.if1.false) c.clear-column.ensures
+    (sym tested.no_pivot_of_zero.ensures ∙ c.before.before.before.if1.false) c.clear-column.ensures
 
 swept-2 : (c : tie.After-clear-column2) → Swept (start_2 c) 2 c.clear-column2.new.0 c.clear-column2.new.1.0
 swept-2 c =
@@ -66,7 +66,7 @@ returns c =
     let b = tested.before.before in
     c.no-inverse.ensures
     ∙ ap as_matrix (sym (sweeping_refused (swept b.before.before.before) (omega (arith, (start b.before.before.before).requires)) b.bring-pivot.ensures
-    (sym tested.no_pivot.ensures ∙ c.before.if1.true)))
+    (sym tested.no_pivot_of_zero.ensures ∙ c.before.if1.true)))
 
 returns-2 : tie.Need-returns-2
 returns-2 c =

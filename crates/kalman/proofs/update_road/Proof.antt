@@ -3,7 +3,7 @@ use Rattle.algebra.specs.Matrix.{at}
 use Rattle.algebra.specs.Array.{cut, used_flat}
 use Rattle.filtering.proofs.Shapes.{way}
 use Rattle.road.specs.Road.{estimate_of}
-use Rattle.road.proofs.Roads.{corrected_by}
+use Rattle.road.proofs.Roads.{corrected_by_lem}
 use Rattle.kalman.proofs.Ways.{road_answered, road_refused}
 use Rattle.kalman.proofs.Steps.{road_update}
 use borrow.Author.Rules.{rules}
@@ -20,7 +20,7 @@ returns c =
     let s = t.before.before in
     let e = s.before.before.before.before.before in
     let a = e.before.before.before.args in
-    let u = corrected_by (at a.h.now 0) (at a.h.now 1) s.innovation.result.inverse (estimate_of e.pair-in.result) told right.corrected.ensures s.innovation.ensures in
+    let u = corrected_by_lem (at a.h.now 0) (at a.h.now 1) s.innovation.result.inverse (estimate_of e.pair-in.result) told right.corrected.ensures s.innovation.ensures in
     road_answered _ _ _ (way _ _ _) (road_update a.h.now a.r.now a.z.now a.x.now a.p.now e.pair-in.ensures u)
     told c.vector-result.ensures f.flat-two.ensures
 

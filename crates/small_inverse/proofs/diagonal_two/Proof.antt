@@ -13,19 +13,19 @@ returns : tie.Need-returns
 unfolding pad
 returns c =
     ap in_rows c.vector-refused.ensures
-    ∙ ap as_matrix (sym (diagonal_is _ _ _ _ _ _ _ _ ∙ cond-true _ _ (sym c.before.before.no_pivot.ensures ∙ c.before.if1.true)))
+    ∙ ap as_matrix (sym (diagonal_is _ _ _ _ _ _ _ _ ∙ cond-true _ _ (sym c.before.before.no_pivot_of_zero.ensures ∙ c.before.if1.true)))
 
 returns-2 : tie.Need-returns-2
 unfolding pad
 returns-2 c =
-    let first = sym c.before.before.before.before.no_pivot.ensures ∙ c.before.before.before.if1.false in
+    let first = sym c.before.before.before.before.no_pivot_of_zero.ensures ∙ c.before.before.before.if1.false in
     let second = sym c.before.before.no-pivot2.ensures ∙ c.before.if2.true in
     ap in_rows c.vector-refused2.ensures ∙ ap as_matrix (sym (diagonal_is _ _ _ _ _ _ _ _ ∙ cond-false _ _ first ∙ if_true _ _ second))
 
 returns-3 : tie.Need-returns-3
 unfolding pad
 returns-3 c =
-    let first = sym c.before.before.before.before.no_pivot.ensures ∙ c.before.before.before.if1.false in
+    let first = sym c.before.before.before.before.no_pivot_of_zero.ensures ∙ c.before.before.before.if1.false in
     let second = sym c.before.before.no-pivot2.ensures ∙ c.before.if2.false in
     ap in_rows c.vector-result.ensures ∙ ap as_matrix (sym (diagonal_is _ _ _ _ _ _ _ _ ∙ cond-false _ _ first ∙ if_false _ _ second))
 

@@ -1,7 +1,7 @@
 -- `corrected` meets its contract: by whether there is a reading, and what the update answers.
 use borrow.Author.Rules.{rules}
 use Rattle.road.specs.Road.{estimate_of}
-use Rattle.road.proofs.Roads.{corrected_by}
+use Rattle.road.proofs.Roads.{corrected_by_lem}
 use Rattle.tracker.specs.Tracked.{sensor_in}
 use Rattle.tracker.proofs.Readings.{corrected-value, corrected-refused, corrected-none}
 use Rattle.tracker.proofs.corrected.Statement.{statement}
@@ -12,7 +12,7 @@ returns c =
     let told = c.before.before.answer.given.1 in
     let u = c.before.before.before.before in
     let a = u.before.before.args in
-    let s = corrected_by a.f.h0 a.f.h1 u.innovation.result.inverse (estimate_of a.e) told c.corrected.ensures u.innovation.ensures in
+    let s = corrected_by_lem a.f.h0 a.f.h1 u.innovation.result.inverse (estimate_of a.e) told c.corrected.ensures u.innovation.ensures in
     corrected-value (sensor_in a.f) a.reading (estimate_of a.e) u.before.if1.true s told
 
 returns-2 : tie.Need-returns-2
