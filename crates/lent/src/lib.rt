@@ -1,5 +1,7 @@
 // One law for the functions that change what their caller lends, in proofs/: `Lent.antt` for the function, `Lends.antt` for a
 // caller by value, `While.antt` for a loop over a lent slice. The code is the laws' smallest instance.
+#![tactic(auto)]
+
 ghost use Rattle.std.specs.Prelude.{◌≡◌};
 ghost use Rattle.lent.specs.Gauge.{moved_of};
 

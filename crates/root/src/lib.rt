@@ -1,5 +1,7 @@
 // The correctly rounded square root of an f64. A guess in floats is taken where integers show that it is the root; of the
 // guess nothing is assumed, and elsewhere the root is found digit by digit.
+#![tactic(auto)]
+
 ghost use Rattle.std.specs.Prelude.{◌≡◌, true, false, ◌+◌, ◌*◌, ◌^◌, ◌≤◌, ◌<◌};
 ghost use Rattle.std.specs.Float.{binary64};
 ghost use Rattle.std.specs.Float.Ieee.{of_bits, odd};

@@ -1,5 +1,7 @@
 // src/core/scalar.rs at f64: the constants and functions that belong to the number type. The numbers
 // themselves are plain f64; the root is the crate `root`'s.
+#![tactic(auto)]
+
 ghost use Rattle.std.specs.Prelude.{◌≡◌};
 ghost use Rattle.root.specs.Root.{root as root_of_number};
 ghost use Rattle.scalar.specs.Promise.{EpsilonPremise};

@@ -10,8 +10,12 @@ use borrow.Author.Tests.{leb-true}
 use Rattle.root.specs.Weights.{hidden, past54}
 use Rattle.root.specs.Root.{nearest_root}
 use Rattle.root.proofs.Whole.{nearest_of}
-use Rattle.root.proofs.is_nearest.Statement.{statement}
-use Rattle.root.proofs.is_nearest.Tie as tie
+use Rattle.root.proofs.is_nearest.Lts as lts
+use Rattle.root.proofs.is_nearest.Reads as reads
+use Rattle.root.proofs.is_nearest.Goals as goal
+
+abbrev Start : Type 0
+Start = lts.Start reads.Pre reads.Post
 
 -- the weight of the upper half
 abbrev base : ℕ
@@ -36,33 +40,26 @@ finish m h l d g q s is x y u v =
     (subst (λ (n : ℕ). l * l + past54 < g * 2 ^ 27 + n → n * n < m * hidden + n) is (over h l m d g x y) u)
     (subst (λ (n : ℕ). g * 2 ^ 27 + n ≤ l * l + past54 + n * 2 → m * hidden ≤ n * n + n) is (under h l m d g x y) v)
 
-mul-hh : tie.Need-overflow-mul-hh
-mul-hh c = omega (arith, product (c.args.q / base) (c.args.q / base) (omega arith) (omega arith))
-
-mul-hl : tie.Need-overflow-mul-hl
-mul-hl c = let q = c.before.before.args.q in omega (arith, product (q / base) (q % base) (omega arith) (omega arith))
-
-ll : (c : tie.Start) → c.args.q % base * (c.args.q % base) < past54
+ll : (c : Start) → c.args.q % base * (c.args.q % base) < past54
 ll c = product (c.args.q % base) (c.args.q % base) (omega arith) (omega arith)
 
-mul-v : tie.Need-overflow-mul-v
-mul-v c = omega (arith, ll c.before.before.before.before)
+pub overflow_mul-hh : goal.overflow_mul-hh
+overflow_mul-hh c = omega (arith, product (c.args.q / base) (c.args.q / base) (omega arith) (omega arith))
 
-add-v : tie.Need-overflow-add-v
-add-v c = omega (arith, ll c.before.before.before.before)
+pub overflow_mul-hl : goal.overflow_mul-hl
+overflow_mul-hl c = let q = c.args.q in omega (arith, product (q / base) (q % base) (omega arith) (omega arith))
 
-returns-6 : tie.Need-returns-6
-returns-6 c t =
+pub overflow_mul-v : goal.overflow_mul-v
+overflow_mul-v c = omega (arith, ll c.before.before.before.before)
+
+pub overflow_add-v : goal.overflow_add-v
+overflow_add-v c = omega (arith, ll c.before.before.before.before)
+
+pub returns : goal.returns
+returns c t =
     let g = c.before in
     let f = g.before in
     let d = f.before in
     let h = d.before in
-    let a = h.before.args in
-    finish a.m (a.q / base) (a.q % base) _ _ a.q h.before.requires.0 (div-add-mod' a.q base) (sub-add_cancel h.if1.false) (sub-add_cancel f.if3.false) c.if5.false (leb-true _ _ t)
-
-pub is_nearest_spec : {M : Type 1} → statement M
-is_nearest_spec =
-    tie.close
-    (tie.spec mul-hh (λ c t. absurd (false≢true t)) (λ c t. absurd (false≢true t)) (λ c. search rules) (λ c. search rules) mul-hl
-    (λ c t. absurd (false≢true t)) (λ c t. absurd (false≢true t)) (λ c. search rules) (λ c. search rules) mul-v add-v
-    (λ c t. absurd (false≢true t)) (λ c. search rules) (λ c. search rules) returns-6)
+    let a = h.args in
+    finish a.m (a.q / base) (a.q % base) _ _ a.q h.requires.0 (div-add-mod' a.q base) (sub-add_cancel h.if-m-hh.false) (sub-add_cancel f.if-t-hl.false) c.if-u-v.false (leb-true _ _ t)
