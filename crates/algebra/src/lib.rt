@@ -1,5 +1,7 @@
 // Vectors, matrices, inversion and Cholesky's factor as definitions for any size, in specs/, and their laws, in proofs/. The
 // functions are promises: they do nothing, and the crate is not proved without what their contracts state.
+#![tactic(auto)]
+
 ghost use Rattle.algebra.specs.Cases.{Cases};
 ghost use Rattle.algebra.specs.Promise.{InverseAndFactor};
 

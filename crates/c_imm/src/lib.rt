@@ -11,7 +11,7 @@ use road::{Pair, Two};
 use sizes::{both, size_of};
 
 // Two models of one road: their estimates, and the transition.
-#[derive(Drop)]
+#[derive(Clone, Copy)]
 struct RoadBank {
     first: Pair,
     second: Pair,

@@ -13,7 +13,7 @@ pub const BOTTOM: u32 = 4500;
 pub const LONGEST: u32 = 6435;
 
 // The places at the bottom and the top, and the seconds at the right edge.
-#[derive(Drop)]
+#[derive(Clone, Copy)]
 pub struct Frame {
     pub low: u32,
     pub high: u32,

@@ -23,7 +23,7 @@ fn edge(end: u32, is_last: bool, f: Frame) -> u32
 }
 
 // How far the bands are drawn: the byte after them, the lower edge of the next, and the height of the last number written.
-#[derive(Drop)]
+#[derive(Clone, Copy)]
 struct Drawn {
     at: usize,
     lower: u32,

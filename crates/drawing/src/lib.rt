@@ -13,7 +13,7 @@ mod shown;
 
 // What is drawn, in its units: seconds from reading to reading, ends in metres, and places in centimetres, of which 2,000,000,000
 // is the start of the road. A reading is 0 where none was taken; `moved` is the stage by the filter where smoothing changed it, else 0.
-#[derive(Drop)]
+#[derive(Clone, Copy)]
 pub struct Duty {
     pub step: u32,
     pub stages: usize,

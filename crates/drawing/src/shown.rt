@@ -10,7 +10,7 @@ fn or_else(a: u32, b: u32) -> u32 {
 }
 
 // The lowest and the highest of all readings and smoothed places.
-#[derive(Drop)]
+#[derive(Clone, Copy)]
 struct Range {
     low: u32,
     high: u32,

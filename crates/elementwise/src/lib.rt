@@ -19,7 +19,7 @@ use sizes::{Size, is_alike, is_inside, is_shape, is_size, number, size_of};
 // ---- a matrix as a record
 
 // A matrix with its used sizes, the rows flat, four numbers a row. Its fields can hold anything.
-#[derive(Drop)]
+#[derive(Clone, Copy)]
 pub struct Matrix {
     pub rows: usize,
     pub cols: usize,
@@ -27,7 +27,7 @@ pub struct Matrix {
 }
 
 // A matrix of an array of rows, beside its case.
-#[derive(Drop)]
+#[derive(Clone, Copy)]
 pub struct MatrixMade {
     pub status: Status,
     pub matrix: Matrix,

@@ -11,7 +11,7 @@ use steps::is_well_sized;
 
 // A model of n states: transition a (n by n), state x_hat, covariance p (n by n), process noise q (n by n), and the likelihood of
 // the measurement under it. A matrix stands flat, four numbers a row; what stands outside its sizes is ignored.
-#[derive(Drop)]
+#[derive(Clone, Copy)]
 pub struct ImmModel {
     pub a: [f64; 16],
     pub x_hat: [f64; 4],
@@ -22,7 +22,7 @@ pub struct ImmModel {
 
 // Sizes: state n, measurement m, models k. The first k models, the transition (k by k; row i, column j: the probability of model
 // j after model i), the models' probabilities mu, measurement matrix c (m by n), measurement noise r (m by m).
-#[derive(Drop)]
+#[derive(Clone, Copy)]
 pub struct ImmEstimator {
     pub n: usize,
     pub m: usize,
@@ -35,7 +35,7 @@ pub struct ImmEstimator {
 }
 
 // A step's answer, and the estimator that it leaves.
-#[derive(Drop)]
+#[derive(Clone, Copy)]
 pub struct Stepped {
     pub answer: Status,
     pub estimator: ImmEstimator,

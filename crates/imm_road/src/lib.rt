@@ -10,14 +10,14 @@ use rows::pick;
 use scalar::ControlScalar;
 
 // The weights of the first and of the second model.
-#[derive(Drop)]
+#[derive(Clone, Copy)]
 pub struct Shares {
     pub a: f64,
     pub b: f64,
 }
 
 // Both models' estimates, and their probabilities.
-#[derive(Drop)]
+#[derive(Clone, Copy)]
 pub struct Roads {
     pub first: Pair,
     pub second: Pair,

@@ -22,7 +22,7 @@ use steps::{is_fitting, is_well_sized};
 // Sizes: state n, measurement m, input i. Transition a (n by n), input matrix b (n by i), measurement matrix h (m by n), process
 // noise q (n by n), measurement noise r (m by m), information matrix omega (n by n), information vector xi. A matrix stands
 // flat, four numbers a row; what stands outside its sizes is ignored.
-#[derive(Drop)]
+#[derive(Clone, Copy)]
 pub struct InformationFilter {
     pub n: usize,
     pub m: usize,
@@ -37,7 +37,7 @@ pub struct InformationFilter {
 }
 
 // A sensor of a fusion: h (m by n), its inverted noise r_inv (m by m), both flat, and what it measured, z (m).
-#[derive(Drop)]
+#[derive(Clone, Copy)]
 pub struct Sensor {
     pub n: usize,
     pub m: usize,
@@ -47,21 +47,21 @@ pub struct Sensor {
 }
 
 // A step's answer, and the filter that it leaves.
-#[derive(Drop)]
+#[derive(Clone, Copy)]
 pub struct Stepped {
     pub answer: Status,
     pub filter: InformationFilter,
 }
 
 // An update's answer, the innovation beside its case, and the filter that it leaves.
-#[derive(Drop)]
+#[derive(Clone, Copy)]
 pub struct Updated {
     pub answer: VectorResult,
     pub filter: InformationFilter,
 }
 
 // The same for one reading: the innovation as a number, or the refusal.
-#[derive(Drop)]
+#[derive(Clone, Copy)]
 pub struct UpdatedOne {
     pub answer: ScalarResult,
     pub filter: InformationFilter,

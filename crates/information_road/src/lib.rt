@@ -12,14 +12,14 @@ use matrix::ScalarResult;
 use road::{Pair, Two};
 
 // A step's answer, and the pair that it leaves.
-#[derive(Drop)]
+#[derive(Clone, Copy)]
 pub struct PairStepped {
     pub answer: Status,
     pub pair: Pair,
 }
 
 // An update's answer, the innovation or the refusal, and the pair that it leaves.
-#[derive(Drop)]
+#[derive(Clone, Copy)]
 pub struct PairUpdated {
     pub answer: ScalarResult,
     pub pair: Pair,

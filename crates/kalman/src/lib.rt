@@ -21,7 +21,7 @@ use steps::{is_fitting, is_well_sized};
 // Sizes: state n, measurement m, input i. Transition a (n by n), input matrix b (n by i), measurement matrix h (m by n), process
 // noise q (n by n), measurement noise r (m by m), state x, covariance p (n by n). A matrix stands flat, four numbers a row; what
 // stands outside its sizes is ignored.
-#[derive(Drop)]
+#[derive(Clone, Copy)]
 pub struct KalmanFilter {
     pub n: usize,
     pub m: usize,
@@ -36,21 +36,21 @@ pub struct KalmanFilter {
 }
 
 // A step's answer, and the filter that it leaves.
-#[derive(Drop)]
+#[derive(Clone, Copy)]
 pub struct Stepped {
     pub answer: Status,
     pub filter: KalmanFilter,
 }
 
 // An update's answer, the innovation beside its case, and the filter that it leaves.
-#[derive(Drop)]
+#[derive(Clone, Copy)]
 pub struct Updated {
     pub answer: VectorResult,
     pub filter: KalmanFilter,
 }
 
 // The same for one reading: the innovation as a number, or the refusal.
-#[derive(Drop)]
+#[derive(Clone, Copy)]
 pub struct UpdatedOne {
     pub answer: ScalarResult,
     pub filter: KalmanFilter,

@@ -5,13 +5,13 @@
 ghost use Rattle.std.specs.Prelude.{◌≡◌};
 ghost use Rattle.lent.specs.Gauge.{moved_of};
 
-#[derive(Drop)]
+#[derive(Clone, Copy)]
 pub struct Gauge {
     pub level: f64,
 }
 
 // The level before, and the gauge after.
-#[derive(Drop)]
+#[derive(Clone, Copy)]
 pub struct Moved {
     pub answer: f64,
     pub gauge: Gauge,

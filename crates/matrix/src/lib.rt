@@ -12,28 +12,28 @@ use answer::Status;
 use sizes::{is_chained, size_of};
 
 // A matrix beside its case; beside a refusal the rows are all +0.
-#[derive(Drop)]
+#[derive(Clone, Copy)]
 pub struct MatrixResult {
     pub status: Status,
     pub rows: [[f64; 4]; 4],
 }
 
 // A vector beside its case.
-#[derive(Drop)]
+#[derive(Clone, Copy)]
 pub struct VectorResult {
     pub status: Status,
     pub cells: [f64; 4],
 }
 
 // A number, or the refusal.
-#[derive(Drop)]
+#[derive(Clone, Copy)]
 pub enum ScalarResult {
     Value(f64),
     Refused(u8),
 }
 
 // A yes or no, or the refusal.
-#[derive(Drop)]
+#[derive(Clone, Copy)]
 pub enum TestResult {
     Value(bool),
     Refused(u8),

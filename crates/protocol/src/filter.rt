@@ -6,7 +6,7 @@ use crate::words::{C, F, P, R, S, U, cells, count_at};
 // The letter of no step.
 pub const N: u64 = 78;
 
-#[derive(Drop)]
+#[derive(Clone, Copy)]
 pub struct Sizes {
     pub n: usize,
     pub m: usize,
@@ -14,7 +14,7 @@ pub struct Sizes {
 }
 
 // Where the parts b, h, q, r, x and p begin in a filter, and where p ends; an information filter has xi and omega for x and p.
-#[derive(Drop)]
+#[derive(Clone, Copy)]
 pub struct Parts(
     pub usize,
     pub usize,

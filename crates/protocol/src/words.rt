@@ -37,14 +37,14 @@ const NAN: u64 = 0x7ff8_0000_0000_0000;
 const NAN_TEXT: u64 = 0x6e_616e;
 
 // A number's bits; a whole number, or its magnitude with the sign bit; the bytes of a text.
-#[derive(Drop)]
+#[derive(Clone, Copy)]
 pub(crate) struct Value {
     pub kind: u8,
     pub bits: u64,
 }
 
 // How many values were read, and whether they are those of a call.
-#[derive(Drop)]
+#[derive(Clone, Copy)]
 pub struct Reading {
     pub count: usize,
     pub is_call: bool,

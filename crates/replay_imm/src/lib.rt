@@ -7,7 +7,7 @@ use estimators::imm;
 use protocol::words::{cells, number_at, part, size_at};
 use protocol::{given, names};
 
-#[derive(Drop)]
+#[derive(Clone, Copy)]
 struct Sizes {
     n: usize,
     m: usize,
@@ -15,7 +15,7 @@ struct Sizes {
 }
 
 // Where the transition, c, r and the probabilities begin in a bank, and where it ends.
-#[derive(Drop)]
+#[derive(Clone, Copy)]
 struct Parts(usize, usize, usize, usize, usize);
 
 // The numbers of that many models; 0 for more than 4.

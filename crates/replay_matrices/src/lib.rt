@@ -19,7 +19,7 @@ const NUMBER: u8 = 3;
 
 const TEST: u8 = 4;
 
-#[derive(Drop)]
+#[derive(Clone, Copy)]
 struct Call {
     op: usize,
     r: usize,
@@ -30,7 +30,7 @@ struct Call {
 }
 
 // The kind; how many words are sizes, cells of a, cells of b, and a number; how many numbers the result has.
-#[derive(Drop)]
+#[derive(Clone, Copy)]
 struct Shape(u8, usize, usize, usize, usize, usize);
 
 fn columns(op: usize, r: usize, second: usize) -> usize {

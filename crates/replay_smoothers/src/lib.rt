@@ -8,7 +8,7 @@ use protocol::{given, names};
 use std::num::wrapping_add_usize;
 
 // A smoother of n states with room for that many slots.
-#[derive(Drop)]
+#[derive(Clone, Copy)]
 struct Sizes {
     n: usize,
     room: usize,
@@ -16,11 +16,11 @@ struct Sizes {
 
 // Where the words of the transition and of the slots begin; how many slots are stored and dropped, and how many stored then;
 // how many pairs are answered.
-#[derive(Drop)]
+#[derive(Clone, Copy)]
 struct Duty(usize, usize, usize, usize, usize);
 
 // How many slots are stored, the word after those offered, and the place in the answer.
-#[derive(Drop)]
+#[derive(Clone, Copy)]
 struct Stored {
     count: usize,
     next: usize,

@@ -10,7 +10,7 @@ use std::num::wrapping_add_usize;
 // The letter of no step.
 const N: u64 = 78;
 
-#[derive(Drop)]
+#[derive(Clone, Copy)]
 struct Sizes {
     n: usize,
     m: usize,
@@ -18,7 +18,7 @@ struct Sizes {
 }
 
 // Where the parts b, h, q, r, x and s begin in a filter, and where s ends.
-#[derive(Drop)]
+#[derive(Clone, Copy)]
 struct Parts(usize, usize, usize, usize, usize, usize, usize);
 
 fn parts_of(s: Sizes) -> Parts

@@ -9,7 +9,7 @@ ghost use Rattle.road.specs.Road.{matrix_of, motion_of, sensor_of, estimate_of, 
 use matrix::ScalarResult;
 
 // The rows (a, b) and (c, d).
-#[derive(Drop)]
+#[derive(Clone, Copy)]
 pub struct Two {
     pub a: f64,
     pub b: f64,
@@ -18,7 +18,7 @@ pub struct Two {
 }
 
 // A state of two numbers and its covariance.
-#[derive(Drop)]
+#[derive(Clone, Copy)]
 pub struct Pair {
     pub x0: f64,
     pub x1: f64,
@@ -26,14 +26,14 @@ pub struct Pair {
 }
 
 // An update's answer, the innovation or the refusal, and the inverted innovation variance.
-#[derive(Drop)]
+#[derive(Clone, Copy)]
 pub struct Innovated {
     pub answer: ScalarResult,
     pub inverse: f64,
 }
 
 // A road's filter: a, b, h, q and r, and the pair.
-#[derive(Drop)]
+#[derive(Clone, Copy)]
 pub struct Road {
     pub a: Two,
     pub b0: f64,

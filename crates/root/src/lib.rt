@@ -20,7 +20,7 @@ const INFINITY: u64 = 0x7ff0_0000_0000_0000;
 // ---- the whole root of m * 2^54, digit by digit
 
 // The digits found, the remainder, and the radicand's digits that are not used yet, in units of 2^-54.
-#[derive(Drop)]
+#[derive(Clone, Copy)]
 pub struct Part {
     pub root: u64,
     pub rest: u64,

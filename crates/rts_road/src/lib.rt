@@ -10,7 +10,7 @@ use answer::Status;
 use road::{Pair, Two};
 
 // A slot's smoothed pair beside the answer; beside a refusal, the next slot's.
-#[derive(Drop)]
+#[derive(Clone, Copy)]
 pub struct PairSmoothed {
     pub answer: Status,
     pub pair: Pair,

@@ -16,7 +16,7 @@ use sizes::size_of;
 
 // One slot: the filtered state x and covariance p, n by n, and the predicted pair. A matrix stands flat, four
 // numbers a row; what stands outside its sizes is ignored.
-#[derive(Drop)]
+#[derive(Clone, Copy)]
 pub struct FilteredState {
     pub n: usize,
     pub x: [f64; 4],
@@ -26,14 +26,14 @@ pub struct FilteredState {
 }
 
 // A slot beside its case.
-#[derive(Drop)]
+#[derive(Clone, Copy)]
 pub struct StateResult {
     pub status: Status,
     pub state: FilteredState,
 }
 
 // Room for `room` slots of state size n, of which the first `count` are stored. The slots are in a lent buffer.
-#[derive(Drop)]
+#[derive(Clone, Copy)]
 pub struct RtsSmoother {
     pub n: usize,
     pub room: usize,
@@ -41,14 +41,14 @@ pub struct RtsSmoother {
 }
 
 // A call's answer, and the smoother that it leaves.
-#[derive(Drop)]
+#[derive(Clone, Copy)]
 pub struct Stored {
     pub answer: Status,
     pub smoother: RtsSmoother,
 }
 
 // A count, or the refusal.
-#[derive(Drop)]
+#[derive(Clone, Copy)]
 pub enum CountResult {
     Value(usize),
     Refused(u8),

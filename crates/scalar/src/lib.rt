@@ -9,11 +9,11 @@ ghost use Rattle.scalar.specs.Number.{abs as abs_of, clamp, saturated, of_whole}
 ghost use Rattle.scalar.specs.Constants.{constants as constants_of};
 
 // The number type of the estimators, f64.
-#[derive(Drop)]
+#[derive(Clone, Copy)]
 pub struct ControlScalar;
 
 // The associated constants, as one value that a contract can speak of.
-#[derive(Drop)]
+#[derive(Clone, Copy)]
 pub struct Constants {
     pub zero: f64,
     pub one: f64,
@@ -122,7 +122,7 @@ impl ControlScalar {
 }
 
 // The part of the number type that PID control uses.
-#[derive(Drop)]
+#[derive(Clone, Copy)]
 pub struct PidScalar;
 
 impl PidScalar {

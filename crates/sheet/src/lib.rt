@@ -16,7 +16,7 @@ pub mod seen;
 mod stages;
 
 // How many bytes of the output are the report, or the refusal of an output that is too small.
-#[derive(Drop)]
+#[derive(Clone, Copy)]
 pub enum Reported {
     Written(usize),
     Refused(u8),

@@ -9,7 +9,7 @@ use sheet_text::metres::whole_metres;
 use sheet_text::{Field, Whole};
 
 // Whole metres; `number` is a refusal's, at `line`, or 0.
-#[derive(Drop)]
+#[derive(Clone, Copy)]
 pub struct Marks {
     pub number: u32,
     pub line: u32,

@@ -8,7 +8,7 @@ use crate::lines::{has_form, number_at};
 use sheet_text::{Whole, in_range};
 
 // `number` is a refusal's, on line 1, or 0.
-#[derive(Drop)]
+#[derive(Clone, Copy)]
 pub struct Head {
     pub number: u32,
     pub line: u32,

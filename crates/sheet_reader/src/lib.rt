@@ -10,7 +10,7 @@ mod lines;
 mod parts;
 
 // A reading: whether one was taken, and its metres, 0 where none was.
-#[derive(Drop)]
+#[derive(Clone, Copy)]
 pub struct Reading {
     pub taken: bool,
     pub metres: Whole,
@@ -18,7 +18,7 @@ pub struct Reading {
 
 // What a sheet says: `count` readings and `stages` ends stand at the start of their arrays. `number` is a refusal's, at `line`, and
 // then everything else is 0; or it is 0.
-#[derive(Drop)]
+#[derive(Clone, Copy)]
 pub struct SheetRead {
     pub number: u32,
     pub line: u32,

@@ -7,14 +7,14 @@ ghost use Rattle.sheet_text.specs.Held.{whole_of};
 use sheet_text::{Field, Whole, read_field};
 
 // Whether a field, or a line of one, has its form, and its number.
-#[derive(Drop)]
+#[derive(Clone, Copy)]
 pub struct Number {
     pub formed: bool,
     pub value: Whole,
 }
 
 // Whether a line of two fields has its form, and its numbers.
-#[derive(Drop)]
+#[derive(Clone, Copy)]
 pub struct Numbers {
     pub formed: bool,
     pub first: Whole,

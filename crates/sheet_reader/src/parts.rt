@@ -10,14 +10,14 @@ use crate::lines::{one_at, two_at};
 use sheet_text::{Whole, in_range};
 
 // `number` is a refusal's, on that line, or 0.
-#[derive(Drop)]
+#[derive(Clone, Copy)]
 pub struct Ends {
     pub number: u32,
     pub line: u32,
     pub ends: [u32; 32],
 }
 
-#[derive(Drop)]
+#[derive(Clone, Copy)]
 pub struct Readings {
     pub number: u32,
     pub line: u32,

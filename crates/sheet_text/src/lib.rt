@@ -8,21 +8,21 @@ ghost use Rattle.sheet_text.specs.Held.{digits_of, field_in, field_of, number_of
 pub mod metres;
 
 // A whole number: its size, and whether it is below zero.
-#[derive(Drop)]
+#[derive(Clone, Copy)]
 pub struct Whole {
     pub below: bool,
     pub size: u32,
 }
 
 // What a field says: a number, or it has not its form.
-#[derive(Drop)]
+#[derive(Clone, Copy)]
 pub enum Field {
     Number(Whole),
     Bad,
 }
 
 // What digits say.
-#[derive(Drop)]
+#[derive(Clone, Copy)]
 pub enum Digits {
     Size(u32),
     Bad,

@@ -1,11 +1,13 @@
 // Sizes, 1 to 4: the type of them, and the tests of what a call is given for sizes, each one bool.
+#![tactic(auto)]
+
 ghost use Rattle.std.specs.Prelude.{◌≡◌, ◌&&◌};
 ghost use Rattle.sizes.specs.Size.{count, size_of, sized, shaped, alike, chained, inside, paired, applicable};
 
 use scalar::ControlScalar;
 
 // How many rows, columns or numbers of an array of four are used.
-#[derive(Drop)]
+#[derive(Clone, Copy)]
 pub enum Size {
     One,
     Two,

@@ -20,7 +20,7 @@ use steps::{is_fitting, is_well_sized};
 // Sizes: state n, measurement m, input i. Transition a (n by n), input matrix b (n by i), measurement matrix h (m by n), process
 // noise q (n by n), each measurement's deviation r_diag (m), state x, factor s_chol of the covariance (n by n). A matrix
 // stands flat, four numbers a row; what stands outside its sizes is ignored.
-#[derive(Drop)]
+#[derive(Clone, Copy)]
 pub struct SqrtKalman {
     pub n: usize,
     pub m: usize,
@@ -35,21 +35,21 @@ pub struct SqrtKalman {
 }
 
 // A step's answer, and the filter that it leaves.
-#[derive(Drop)]
+#[derive(Clone, Copy)]
 pub struct Stepped {
     pub answer: Status,
     pub filter: SqrtKalman,
 }
 
 // An update's answer, the innovations beside its case, and the filter that it leaves.
-#[derive(Drop)]
+#[derive(Clone, Copy)]
 pub struct Updated {
     pub answer: VectorResult,
     pub filter: SqrtKalman,
 }
 
 // The same for one reading: the innovation as a number, or the refusal.
-#[derive(Drop)]
+#[derive(Clone, Copy)]
 pub struct UpdatedOne {
     pub answer: ScalarResult,
     pub filter: SqrtKalman,

@@ -13,21 +13,21 @@ use road::{Pair, Two};
 use scalar::ControlScalar;
 
 // A step's answer, and the pair that it leaves.
-#[derive(Drop)]
+#[derive(Clone, Copy)]
 pub struct PairStepped {
     pub answer: Status,
     pub pair: Pair,
 }
 
 // An update's answer, the innovation or the refusal, and the pair that it leaves.
-#[derive(Drop)]
+#[derive(Clone, Copy)]
 pub struct PairUpdated {
     pub answer: ScalarResult,
     pub pair: Pair,
 }
 
 // An answer, and the factor that it leaves.
-#[derive(Drop)]
+#[derive(Clone, Copy)]
 struct Turned {
     answer: Status,
     factor: Two,

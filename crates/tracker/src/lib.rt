@@ -15,14 +15,14 @@ use slots::{gathered, latest_rejected, put_slot};
 mod slots;
 
 // A wheel distance in metres; where none was taken, metres play no part.
-#[derive(Drop)]
+#[derive(Clone, Copy)]
 pub struct Reading {
     pub taken: bool,
     pub metres: f64,
 }
 
 // Seconds from reading to reading, and the noises of the process and of the measurement.
-#[derive(Drop)]
+#[derive(Clone, Copy)]
 pub struct Settings {
     pub step: f64,
     pub process: f64,
@@ -30,7 +30,7 @@ pub struct Settings {
 }
 
 // Refused with 3 at a reading, from 0, beside arrays of +0; or the positions of the readings, and +0 past them.
-#[derive(Drop)]
+#[derive(Clone, Copy)]
 pub struct Positions {
     pub refused: bool,
     pub reading: usize,
@@ -39,14 +39,14 @@ pub struct Positions {
 }
 
 // An estimate beside its case; beside a refusal it says nothing.
-#[derive(Drop)]
+#[derive(Clone, Copy)]
 struct Filtered {
     answer: Status,
     pair: Pair,
 }
 
 // The reading at which the filter was refused, if it was.
-#[derive(Drop)]
+#[derive(Clone, Copy)]
 enum Place {
     At(usize),
     Nowhere,
