@@ -1,5 +1,7 @@
 // Vectors and matrices in a lent slice of numbers, a matrix by rows of its used size. A size is 1 to 4 by its type, and each
 // function tests that the numbers lie within the slice: a reading gives all +0 where not, and a writing leaves the slice as it was.
+#![tactic(auto)]
+
 ghost use Rattle.std.specs.Prelude.{◌≡◌, ◌++◌, ◌+◌, ◌*◌, ◌≤◌, length};
 ghost use Rattle.algebra.specs.Array.{pad_row, pad};
 ghost use Rattle.sizes.specs.Size.{count, front, part};

@@ -1,5 +1,7 @@
 // Mixing of several models as definitions for any number of models and states, in specs/. The functions are promises: they
 // do nothing, and the crate is not proved without what their contracts state.
+#![tactic(auto)]
+
 ghost use Rattle.mixing.specs.Cases.{Cases, Rust};
 ghost use Rattle.mixing.specs.Laws.{Laws};
 

@@ -1,6 +1,8 @@
 // Rows of four numbers and matrices of four rows behind references, for the crates above: no matrix is copied. A size is 1 to 4
 // by its type, so nothing here is tested. Sizes are told apart by `<`: a compiler makes compares of it, and of `==` and `match`
 // a table of jumps.
+#![tactic(auto)]
+
 ghost use Rattle.std.specs.Prelude.{◌≡◌, cond, [], ◌∷◌, ◌<◌, eqb};
 ghost use Rattle.answer.specs.Table.{table};
 ghost use Rattle.algebra.specs.Matrix.{at, cell, transpose, vec_add, vec_sub, vec_scale};

@@ -1,7 +1,7 @@
 -- Laws of the backward pass, for any kind of slot. Assumes nothing.
 use mathlib.Core.Path.{◌≡◌, refl, sym, ap, ap₂, ◌∙◌, subst}
 use mathlib.Core.List.{List, [], ◌∷◌, ◌++◌, map}
-use Prim.Native.Nat.{ℕ, zero, suc, ◌<◌, zero_le, suc-le-suc}
+use Prim.Native.Nat.{ℕ, zero, suc, ◌<◌, zero-le, suc-le-suc}
 use native.Mathlib.Nat.{le_of_suc-le-suc, not-suc-le-zero}
 use lib.ListN.{length, drop}
 use Rattle.answer.specs.Table.{table}
@@ -68,7 +68,7 @@ reaches k [] e = absurd (empty k e)
     empty : {A : Type 0} (k : ℕ) {x : A} {m : List A} → drop k [] ≡ x ∷ m → ⊥
     empty zero e = subst IsCons (sym e) tt
     empty (suc k) e = subst IsCons (sym e) tt
-reaches zero (y ∷ l) e = suc-le-suc zero_le
+reaches zero (y ∷ l) e = suc-le-suc zero-le
 reaches (suc k) (y ∷ l) e = suc-le-suc (reaches k l e)
 
 pub from_end : {A : Type 0} (before : List A) (s : A) → drop (length before) (before ++ (s ∷ [])) ≡ s ∷ []

@@ -10,7 +10,7 @@ use prog.Routine.{Routine}
 use prog.Wp.{Calls, Loops, WpFn, Tables}
 use types.Logic.{Logic}
 use contract.Monad.{Fun, fact, fact_i}
-use contract.Running.{tables, tables_of}
+use contract.Running.{tables}
 use types.Kit.{‵, ◌$◌, ◌∵◌, !, qed, by, keep, suffices, feq_i, done}
 use types.Run.{look, init, forget, stop, from, unit_lit, of_opd, assigns, returns, enter, alloc1, alloc0, params1, pass0, free1, free0}
 use sound.WpLaws.{WpFn-mono}
@@ -21,8 +21,8 @@ use denote.Triple.Spec.{Meets, triple_of}
 use denote.Triple.Table.{entered}
 use denote.Triple.Walked.{walk_of, Walks, ends_at, walked, walk_Meets}
 use Rattle.textbook.specs.Textbook.{Textbook}
+use Rattle.std.proofs.raw_atomic.Walks.{proved}
 use Rattle.textbook.proofs.Statements.{statements}
-use Rattle.textbook.specs.contracts.textbook.Key.{name as #textbook·textbook}
 use Rattle.textbook.specs.contracts.textbook as f
 use Rattle.textbook.proofs.textbook.Statement as stated
 use Rattle.textbook.proofs.textbook.Code as code
@@ -53,19 +53,9 @@ module _ {M : Type 1} {𝓤 : Ura M} (𝓛 : Logic 𝓤) (mem : Memory → SProp
       assigns ! (of_opd ! (unit_lit !)) (from ! (stop !)) (init ! 0 refl (tt, tt)) $
       returns ! (look ! 0 refl) $ forget ! 0 refl $ free1 ! $ free0 ! $ keep ! [] $ by ! exits)
 
-  walks : (C : Calls 𝓤 H) (Λ : Loops 𝓤 H) → Walks 𝓛 f.ended tt (WpFn 𝓤 H C Λ code.function) (f.clauses 𝓛 mem run)
-  walks C Λ =
-      walked 𝓛 f.ended tt (f.clauses 𝓛 mem run) (WpFn 𝓤 H C Λ code.function) (λ κs. tt) (λ κs. tt)
-      (λ κs qs bounds a g are. via 𝓤 _ (fst∗ 𝓤 _ (emp 𝓤)) (walk C Λ))
-
-  meets : (𝓣 : Tables 𝓤 H) → Meets 𝓛 f.signature (WpFn 𝓤 H 𝓣.C 𝓣.Λ code.function) (f.spec 𝓛 mem run)
-  meets 𝓣 =
-      walk_Meets 𝓛 f.ended tt tt (f.clauses 𝓛 mem run) (WpFn 𝓤 H 𝓣.C 𝓣.Λ code.function)
-      (WpFn-mono 𝓤 H 𝓛.laws 𝓣 code.function) (walks 𝓣.C 𝓣.Λ)
-
 pub textbook_spec : {M : Type 1} → stated.statement M
-unfolding code.routine tables_of
-textbook_spec 𝓤 𝓛 𝓜 𝓡 =
-    entered 𝓤 𝓛.H (triple_of 𝓛 f.signature (f.spec 𝓛 𝓜.mem 𝓡.run))
-    (tables 𝓤 𝓛.H 𝓜 𝓡 code.env).C (tables 𝓤 𝓛.H 𝓜 𝓡 code.env).Λ #textbook·textbook code.function (code.unfolded 𝓤 𝓛.H 𝓜 𝓡)
-    (meets 𝓛 𝓜.mem 𝓡.run (tables_of 𝓤 𝓛.H 𝓜 (tables 𝓤 𝓛.H 𝓜 𝓡 code.env)))
+textbook_spec 𝓤 𝓛 𝓜 𝓡 wired =
+    let c = f.clauses 𝓛 𝓜.mem 𝓡.returns in
+    let 𝓣 = tables 𝓤 𝓛.H 𝓜 𝓡 𝓡.env in
+    proved 𝓛 f.ended tt c 𝓜 𝓡 tt f.Key.name code.function (code.unfolded 𝓤 𝓛.H 𝓜 𝓡 wired)
+    (λ κs. tt) (λ κs. tt) (λ κs qs bounds a g are. via 𝓤 _ (fst∗ 𝓤 _ (emp 𝓤)) (walk 𝓛 𝓜.mem 𝓡.returns 𝓣.C 𝓣.Λ))

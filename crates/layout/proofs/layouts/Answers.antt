@@ -2,11 +2,10 @@
 use Rattle.algebra.proofs.Matrices.{shape-mat}
 use Rattle.layout.proofs.Rows.{length-rows}
 use Rattle.layout.proofs.Parts.{part-before, part-within, part_placed, part-kept, pair-total, slot-total, filter-total}
-use Rattle.layout.proofs.layouts.Statement.{statement}
-use Rattle.layout.proofs.layouts.Tie as tie
 use native.Mathlib.Omega.{arith}
+use Rattle.layout.proofs.layouts.Goals as goal
 
-returns : tie.Need-returns
+pub returns : goal.returns
 returns c = record {
   pair = pair-total;
   slot = slot-total;
@@ -20,6 +19,3 @@ returns c = record {
   read_back = λ L b k f h g. part_placed L b g k _ h (shape-mat _ _ f);
   others = λ L b j k f p q n g. part-kept L b g j k _ p q n (length-rows _ _ _ (shape-mat _ _ f));
 }
-
-pub layouts_spec : {M : Type 1} → statement M
-layouts_spec = tie.close (tie.spec returns)

@@ -7,19 +7,15 @@ use Rattle.algebra.proofs.Arrays.{used-mat, transpose-used}
 use Rattle.sizes.specs.Size.{part}
 use Rattle.sizes.proofs.Sizes.{bounds}
 use borrow.Author.Rules.{rules}
-use Rattle.rows.proofs.transposed.Statement.{statement}
-use Rattle.rows.proofs.transposed.Tie as tie
+use Rattle.rows.proofs.transposed.Goals as goal
 
-returns : tie.Need-returns
+pub returns : goal.returns
 returns c =
     let c3 = c.before in
     let c2 = c3.before in
     let c1 = c2.before in
     let c0 = c1.before in
-    let x = c0.before.args in
-    c.leading-rows.ensures
-    ∙ (λ i. pad (part x.c x.r (c0.column.ensures i ∷ c1.column2.ensures i ∷ c2.column3.ensures i ∷ c3.column4.ensures i ∷ [])))
+    let x = c0.args in
+    c.leading_rows.ensures
+    ∙ (λ i. pad (part x.c x.r (c0.column.ensures i ∷ c1.column-2.ensures i ∷ c2.column-3.ensures i ∷ c3.column-4.ensures i ∷ [])))
     ∙ ap pad (used-mat _ _ (λ i j. cell x.a.now j i) (bounds x.c).most (bounds x.r).most ∙ sym (transpose-used _ _ _))
-
-pub transposed_spec : {M : Type 1} → statement M
-transposed_spec = tie.close (tie.spec (λ c κs. search rules) (λ c κs. search rules) (λ c κs. search rules) (λ c κs. search rules) (λ c κs. search rules) returns)

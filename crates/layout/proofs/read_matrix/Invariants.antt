@@ -1,0 +1,19 @@
+-- What the loop of `read_matrix` keeps.
+use mathlib.Core.Path.{refl, ap₂, ◌∙◌}
+use Prim.Native.Nat.{ℕ, ◌+◌, ◌*◌, ◌-◌, ◌≤◌}
+use native.Mathlib.Omega.{arith}
+use lib.ListN.{length}
+use Rattle.answer.specs.Table.{table}
+use Rattle.algebra.specs.Array.{pad}
+use Rattle.algebra.proofs.Arrays.{Rows, rows_none, rows_more, rows_all}
+use Rattle.sizes.specs.Size.{count}
+use Rattle.sizes.proofs.Sizes.{bounds}
+use Rattle.layout.specs.Layout.{vector_at}
+use Rattle.layout.proofs.Rows.{row_ends}
+use Rattle.layout.proofs.read_matrix.Given as goal
+
+abbrev pub invariant-loop-i : goal.invariant-loop-i
+invariant-loop-i l = (l.rows ≤ 4) × Rows (λ i'. vector_at (count l.c) l.b (l.k + i' * l.columns)) l.rows l.i l.out
+
+abbrev pub decreases-loop-i : goal.decreases-loop-i
+decreases-loop-i l = l.rows - l.i
