@@ -1,5 +1,7 @@
 // The operations on matrices and vectors behind references, for the crates above: no matrix is copied. A size is 1 to 4 by its
 // type, so nothing here is tested, and told apart by `<`, as in crates/rows.
+#![tactic(auto)]
+
 ghost use Rattle.std.specs.Prelude.{◌≡◌, cond, ◌+◌, ◌≤◌, leb};
 ghost use Rattle.scalar.specs.Number.{+0};
 ghost use Rattle.answer.specs.Table.{table};

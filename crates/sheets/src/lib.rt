@@ -1,5 +1,7 @@
 // The depot sheet as definitions, in specs/: its bytes read, filtered and smoothed, rounded down to whole metres, and printed with
 // their stages. The functions are promises: they do nothing, and the crate is not proved without what their contracts state.
+#![tactic(auto)]
+
 ghost use Rattle.sheets.specs.Cases.{Cases};
 ghost use Rattle.sheets.specs.Promise.{Reports};
 ghost use Rattle.sheets.specs.Texts.{Texts};

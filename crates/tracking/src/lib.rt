@@ -1,5 +1,7 @@
 // The way from settings and readings to filtered and smoothed positions as definitions, in specs/. The functions are promises:
 // they do nothing, and the crate is not proved without what their contracts state.
+#![tactic(auto)]
+
 ghost use Rattle.tracking.specs.Cases.{Cases};
 ghost use Rattle.tracking.specs.Laws.{Tracks};
 

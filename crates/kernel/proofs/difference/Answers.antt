@@ -1,0 +1,18 @@
+-- `difference` meets its contract: all sixteen cells are made, and the used ones taken.
+use mathlib.Core.Path.{◌∙◌}
+use Rattle.scalar.specs.Number.{◌⊖◌}
+use Rattle.algebra.specs.Matrix.{sub, vec_sub}
+use Rattle.rows.proofs.Kernels.{leading_both}
+use borrow.Author.Rules.{rules}
+use Rattle.kernel.proofs.difference.Goals as goal
+
+pub returns : goal.returns
+unfolding sub vec_sub
+returns c =
+    let r3 = c.before in
+    let r2 = r3.before.before.before in
+    let r1 = r2.before.before.before in
+    let r0 = r1.before.before.before in
+    let x = r0.args in
+    c.leading_rows.ensures
+    ∙ leading_both (λ x y. x ⊖ y) x.r x.c _ _ r0.row_difference-r0.ensures r1.row_difference-r1.ensures r2.row_difference-r2.ensures r3.row_difference-r3.ensures

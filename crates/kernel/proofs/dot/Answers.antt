@@ -1,0 +1,23 @@
+-- `dot` meets its contract: a turn of the loop is a term of the sum, which starts at +0.
+use Prim.Native.Nat.{◌-◌, ◌≤◌}
+use mathlib.Core.Path.{refl, sym, ◌∙◌}
+use Rattle.scalar.specs.Number.{◌⊗◌, +0}
+use Rattle.answer.proofs.Choice.{cond-true, cond-false}
+use Rattle.algebra.specs.Matrix.{at, dot}
+use Rattle.algebra.proofs.Matrices.{Summing, summing_none, summing_more, summing_all}
+use borrow.Author.Tests.{le-leb, lt-leb}
+use native.Mathlib.Omega.{arith}
+use Rattle.kernel.proofs.dot.Goals as goal
+
+pub loop-i-init : goal.loop-i-init
+loop-i-init c = (c.if-n-le4.true, summing_none _ _ _)
+
+pub loop-i-preserved : goal.loop-i-preserved
+loop-i-preserved c = let v = c.loop-i.invariant in (v.0, summing_more v.1 (omega arith) refl)
+
+pub returns-after-loop-i : goal.returns-after-loop-i
+unfolding dot
+returns-after-loop-i c = let v = c.loop-i.invariant in summing_all v.1 (omega arith) ∙ sym (cond-true _ _ (le-leb _ 4 v.0))
+
+pub returns-else-n-le4 : goal.returns-else-n-le4
+returns-else-n-le4 c = sym (cond-false _ _ (lt-leb _ 4 c.if-n-le4.false))

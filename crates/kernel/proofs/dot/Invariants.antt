@@ -1,0 +1,16 @@
+-- What the loop of `dot` keeps.
+use Prim.Native.Nat.{◌-◌, ◌≤◌}
+use mathlib.Core.Path.{refl, sym, ◌∙◌}
+use Rattle.scalar.specs.Number.{◌⊗◌, +0}
+use Rattle.answer.proofs.Choice.{cond-true, cond-false}
+use Rattle.algebra.specs.Matrix.{at, dot}
+use Rattle.algebra.proofs.Matrices.{Summing, summing_none, summing_more, summing_all}
+use borrow.Author.Tests.{le-leb, lt-leb}
+use native.Mathlib.Omega.{arith}
+use Rattle.kernel.proofs.dot.Given as goal
+
+abbrev pub invariant-loop-i : goal.invariant-loop-i
+invariant-loop-i l = (l.n ≤ 4) × Summing +0 (λ i'. at l.v i' ⊗ at l.w i') l.n l.i l.s
+
+abbrev pub decreases-loop-i : goal.decreases-loop-i
+decreases-loop-i l = l.n - l.i

@@ -1,0 +1,19 @@
+-- `to_flat` meets its contract: a turn stores one number (`Filling`).
+use Prim.Native.Nat.{◌-◌, ◌/◌, ◌%◌}
+use mathlib.Core.Path.{refl}
+use Rattle.scalar.specs.Number.{+0}
+use Rattle.algebra.specs.Matrix.{cell}
+use Rattle.algebra.specs.Array.{flat_of_rows}
+use Rattle.answer.proofs.Tables.{Filling, filling-none, filling-more, filling-all}
+use native.Mathlib.Omega.{arith}
+use Rattle.kernel.proofs.to_flat.Goals as goal
+
+pub loop-n-init : goal.loop-n-init
+loop-n-init c = filling-none _ _ _ _
+
+pub loop-n-preserved : goal.loop-n-preserved
+loop-n-preserved c = filling-more c.loop-n.invariant (omega arith) (omega arith) refl
+
+pub returns : goal.returns
+unfolding flat_of_rows
+returns c = filling-all c.loop-n.invariant (omega arith)
