@@ -1,5 +1,7 @@
 // For calls on slices that the caller lends: the tests of sizes and lengths, and the ways out. A call reads numbers and slices,
 // writes into a lent place, and returns document 01's number, 0 for an answer; a refusal writes nothing.
+#![tactic(auto)]
+
 ghost use Rattle.std.specs.Prelude.{◌≡◌, true, ◌&&◌, length};
 ghost use Rattle.answer.specs.Told.{given};
 ghost use Rattle.algebra.specs.Array.{used};

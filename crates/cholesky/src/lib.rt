@@ -1,5 +1,7 @@
 // `cholesky` of src/core/matrix.rs at f64: the lower triangle l with l × transposed l = a. Only the
 // lower triangle of a is read.
+#![tactic(auto)]
+
 ghost use Rattle.std.specs.Prelude.{◌≡◌, [], ◌∷◌};
 ghost use Rattle.answer.specs.Answer.{if_sized};
 ghost use Rattle.algebra.specs.Matrix.{dot};

@@ -1,5 +1,7 @@
 // Four states, written out, with four measurements or two: the parts of a step by the same kernels as for any size. With the sizes
 // at hand a compiler leaves out their tests and takes two numbers at a time; so a product of matrices is stored here.
+#![tactic(auto)]
+
 ghost use Rattle.std.specs.Prelude.{◌≡◌};
 ghost use Rattle.algebra.specs.Matrix.{matvec, vec_add, mul, add, transpose};
 ghost use Rattle.algebra.specs.Array.{pad_row, pad, cut, used};

@@ -1,6 +1,8 @@
 // The parts of mixing on rows that the caller lends, with the operations and the order of src/estimator/imm.rs. A bank of k
 // models of n states is its states x, a row for each model, and its covariances p, four rows for each. Sizes are 1 to 4 by
 // their type, so nothing is tested; numbers and models outside them are ignored on entry and +0 in what is left.
+#![tactic(auto)]
+
 ghost use Rattle.std.specs.Prelude.{◌≡◌, cond, [], ℕ, ◌<◌};
 ghost use Rattle.std.specs.Float.Ieee.{lt};
 ghost use Rattle.scalar.specs.Number.{◌⊕◌, ◌⊖◌, ◌⊗◌, ◌⊘◌, +0, epsilon};

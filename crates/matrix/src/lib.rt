@@ -1,6 +1,8 @@
 // src/core/matrix.rs at f64: matrices of at most 4 rows and 4 columns as arrays of arrays, with the used sizes beside
 // them. Here are the results and `matmul`; sizes and their tests are crates/sizes, the operations behind references crates/kernel.
 // Cells outside the used part are ignored on entry and +0 in a result.
+#![tactic(auto)]
+
 ghost use Rattle.std.specs.Prelude.{◌≡◌, []};
 ghost use Rattle.answer.specs.Answer.{where_sized};
 ghost use Rattle.algebra.specs.Matrix.{mul};

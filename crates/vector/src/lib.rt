@@ -1,5 +1,7 @@
 // src/core/matrix.rs at f64, the functions on vectors: vectors of at most 4 components as arrays by value, with
 // the used size beside them. Components outside are ignored on entry and +0 in a result.
+#![tactic(auto)]
+
 ghost use Rattle.std.specs.Prelude.{◌≡◌};
 ghost use Rattle.answer.specs.Answer.{where_sized};
 ghost use Rattle.answer.specs.Table.{table};

@@ -1,0 +1,11 @@
+-- `dot_two` meets its contract: one term more.
+use mathlib.Core.Path.{ap}
+use lib.Ieee.{Float}
+use borrow.Author.Rules.{rules}
+use Rattle.scalar.specs.Number.{◌⊕◌, ◌⊗◌}
+use Rattle.algebra.specs.Matrix.{at, dot, sum_from}
+use Rattle.cholesky.proofs.dot_two.Goals as goal
+
+pub returns : goal.returns
+unfolding dot sum_from
+returns c = let a = c.args in ap (λ (s : Float). s ⊕ (at a.v 1 ⊗ at a.w 1)) c.dot_one.ensures

@@ -1,0 +1,35 @@
+-- `mix` meets its contract: a turn of the loop makes one model's mixed estimate, from what all models held at the start.
+use Prim.Native.Nat.{ℕ, ◌-◌, ◌≤◌, ◌<◌}
+use native.Mathlib.Omega.{arith}
+use mathlib.Core.Path.{◌≡◌, subst}
+use lib.ListN.{replicate}
+use Rattle.scalar.specs.Number.{+0}
+use Rattle.answer.proofs.Tables.{Filling, filling-none, filling-more}
+use Rattle.algebra.specs.Array.{pad_row, pad}
+use Rattle.sizes.specs.Size.{count}
+use Rattle.sizes.proofs.Sizes.{bounds}
+use Rattle.imm_steps.proofs.Mixes.{mixed, weights_are, state-turn, covariance-turn, all-turns}
+use Rattle.imm_steps.proofs.mix.Goals as goal
+
+pub loop-j-init : goal.loop-j-init
+loop-j-init c =
+    let e = c.number-models.ensures in
+    ((e, omega (arith, e, bounds c.args.k)), (filling-none _ _ _ _, filling-none _ _ _ _))
+
+pub loop-j-preserved : goal.loop-j-preserved
+loop-j-preserved c =
+    let v = c.loop-j.invariant in
+    let a = c.args in
+    let j = c.loop-j.j in
+    let few = (bounds a.k).most in
+    let h : j < count a.k = subst (λ (k : ℕ). j < k) v.0.0 c.loop-j-test.true in
+    let isW = weights_are a.n a.k a.t.now a.x.now a.p.now a.mu.now j h c.predicted-c.ensures c.weights-w.ensures in
+    let isX = state-turn a.n a.k a.t.now a.x.now a.p.now a.mu.now j c.weights-w.result isW c.weighted-m.ensures in
+    let isP = covariance-turn a.n a.k a.t.now a.x.now a.p.now a.mu.now j c.weights-w.result isW isX c.mixed_covariance.ensures in
+    (v.0, (filling-more v.1.0 few h isX, filling-more v.1.1 few h isP))
+
+pub returns : goal.returns
+returns c =
+    let v = c.loop-j.invariant in
+    let a = c.args in
+    all-turns a.n a.k a.t.now a.x.now a.p.now a.mu.now v.1.0 v.1.1 (omega (arith, v.0.0)) c.predicted-c.ensures
