@@ -1,5 +1,7 @@
 // The tests of the sizes of a duty in lent buffers, each one bool: how many states, slots and numbers. Slot k is 2n + 2n² numbers:
 // state, covariance by rows, predicted state, predicted covariance; a smoothed pair is n + n² numbers.
+#![tactic(auto)]
+
 ghost use Rattle.std.specs.Prelude.{◌≡◌, cond};
 ghost use Rattle.sizes.specs.Size.{sized};
 ghost use Rattle.layout.specs.Layout.{stride};

@@ -1,5 +1,7 @@
 // src/core/matrix.rs at f64, the functions cell by cell: matrices of at most 4 rows and 4 columns as arrays of
 // arrays by value, with the used sizes beside them. Cells outside are ignored on entry and +0 in a result.
+#![tactic(auto)]
+
 ghost use Rattle.std.specs.Prelude.{◌≡◌};
 ghost use Rattle.std.specs.Float.Ieee.{eq};
 ghost use Rattle.scalar.specs.Number.{◌⊗◌};

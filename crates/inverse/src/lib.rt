@@ -1,5 +1,7 @@
 // `inv` of src/core/matrix.rs: Gauss and Jordan's elimination with partial pivoting, in place on two arrays of rows.
 // Cells outside the used n by n part are ignored on entry, take part in no used cell, and are +0 in the result.
+#![tactic(auto)]
+
 ghost use Rattle.std.specs.Prelude.{◌≡◌, ◌<◌, ◌≤◌, ◌-◌, suc, length};
 ghost use Rattle.answer.specs.Answer.{refused, if_sized};
 ghost use Rattle.answer.specs.Table.{table};

@@ -1,4 +1,6 @@
 // `inv` of src/core/matrix.rs at the sizes 1 and 2, by its numbers and straight-line; and the test of a pivot, for every size.
+#![tactic(auto)]
+
 ghost use Rattle.std.specs.Prelude.{◌≡◌};
 ghost use Rattle.std.specs.Float.Ieee.{lt};
 ghost use Rattle.scalar.specs.Number.{abs as abs_of};

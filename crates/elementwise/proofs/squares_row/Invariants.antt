@@ -1,0 +1,15 @@
+-- What the loop of `squares_row` keeps.
+use Prim.Native.Nat.{ℕ, ◌-◌, ◌≤◌}
+use mathlib.Core.Path.{refl, ap, ◌∙◌}
+use native.Mathlib.Omega.{arith}
+use Rattle.scalar.specs.Number.{◌⊗◌}
+use Rattle.algebra.specs.Matrix.{at, sum_from}
+use Rattle.algebra.proofs.Matrices.{Summing, summing_none, summing_more, summing_all}
+use Rattle.sizes.proofs.Sizes.{bounds}
+use Rattle.elementwise.proofs.squares_row.Given as goal
+
+abbrev pub invariant-loop-j : goal.invariant-loop-j
+invariant-loop-j l = (l.cols ≤ 4) × Summing l.s (λ j'. at l.v j' ⊗ at l.v j') l.cols l.j l.t
+
+abbrev pub decreases-loop-j : goal.decreases-loop-j
+decreases-loop-j l = l.cols - l.j
