@@ -2,7 +2,6 @@
 use Prim.Native.Nat.{◌-◌, ◌≤◌}
 use mathlib.Core.Path.{sym, ◌∙◌}
 use lib.Ieee.{eq}
-use borrow.Author.Tests.{not-true, not-false}
 use native.Mathlib.Omega.{arith}
 use Rattle.algebra.specs.Matrix.{cell, every}
 use Rattle.sizes.specs.Size.{count}
@@ -15,13 +14,13 @@ loop-i-init c = (omega (arith, c.number-rows.ensures, bounds c.args.r), passing_
 
 pub returns-then-not-equal_row : goal.returns-then-not-equal_row
 returns-then-not-equal_row c =
-    every_not _ _ c.loop-i.i (omega (arith, c.number-rows.ensures)) (sym c.equal_row.ensures ∙ not-true _ c.if-not-equal_row.true)
+    every_not _ _ c.loop-i.i (omega (arith, c.number-rows.ensures)) (sym c.equal_row.ensures ∙ c.if-not-equal_row.true)
     ∙ sym (equal-used _ _ _ _)
 
 pub loop-i-preserved : goal.loop-i-preserved
 loop-i-preserved c =
     let v = c.loop-i.invariant in
-    (v.0, passing_more v.1 (omega arith) (sym c.equal_row.ensures ∙ not-false _ c.if-not-equal_row.false))
+    (v.0, passing_more v.1 (omega arith) (sym c.equal_row.ensures ∙ c.if-not-equal_row.false))
 
 pub returns : goal.returns
 returns c = passing_all c.loop-i.invariant.1 (omega arith) c.number-rows.ensures ∙ sym (equal-used _ _ _ _)

@@ -14,7 +14,7 @@ pub returns-then-is_shape : goal.returns-then-is_shape
 unfolding frob_norm
 returns-then-is_shape c =
     let e = sym c.is_shape.ensures ∙ c.if-is_shape.true in
-    at_sizes as_scalar (λ r c. frob_norm r c (used r c c.args.a)) e (sizes_of _ _ e) c.size_of-rows.ensures c.size_of-cols.ensures
+    at_sizes as_scalar (λ r k. frob_norm r k (used r k c.args.a)) e (sizes_of _ _ e) c.size_of-rows.ensures c.size_of-cols.ensures
     (ap Scalar.Value (c.sqrt.ensures ∙ ap root c.sum_of_squares.ensures))
 
 pub returns-else-is_shape : goal.returns-else-is_shape

@@ -46,17 +46,17 @@ start_3 c = start_2 c.before.before.before.before.before.before.before.before.be
 swept : (c : After-identity_rows-right) → Swept (start c) 0 (table 4 (λ i. row (start c).args.a.now i)) c.identity_rows-right.result
 swept c = sweeping_none (count (start c).args.n) (start c).args.a.now _ (bounds (start c).args.n).most c.identity_rows-right.ensures
 
-swept-1 : (c : After-clear_column) → Swept (start_1 c) 1 c.clear_column.new.0 c.clear_column.new.1.0
+swept-1 : (c : After-clear_column) → Swept (start_1 c) 1 c.clear_column.new.left c.clear_column.new.right
 swept-1 c =
     sweeping_more (swept c.before.before.before.before.before.before.before.before.before) (omega (arith, (start_1 c).requires)) c.bring_pivot.ensures
     (sym c.no_pivot.ensures ∙ c.if-no_pivot.false) c.clear_column.ensures
 
-swept-2 : (c : After-clear_column-2) → Swept (start_2 c) 2 c.clear_column-2.new.0 c.clear_column-2.new.1.0
+swept-2 : (c : After-clear_column-2) → Swept (start_2 c) 2 c.clear_column-2.new.left c.clear_column-2.new.right
 swept-2 c =
     sweeping_more (swept-1 c.before.before.before.before.before.before.before.before.before) (omega (arith, (start_2 c).requires)) c.bring_pivot-2.ensures
     (sym c.no_pivot-2.ensures ∙ c.if-no_pivot-2.false) c.clear_column-2.ensures
 
-swept-3 : (c : After-clear_column-3) → Swept (start_3 c) 3 c.clear_column-3.new.0 c.clear_column-3.new.1.0
+swept-3 : (c : After-clear_column-3) → Swept (start_3 c) 3 c.clear_column-3.new.left c.clear_column-3.new.right
 swept-3 c =
     sweeping_more (swept-2 c.before.before.before.before.before.before.before.before.before) (omega (arith, (start_3 c).requires)) c.bring_pivot-3.ensures
     (sym c.no_pivot-3.ensures ∙ c.if-no_pivot-3.false) c.clear_column-3.ensures

@@ -1,5 +1,4 @@
 -- `pivot_row` meets its contract: the loop keeps the pivot among the rows passed, with its magnitude.
-use mathlib.Core.Logic.{⊎_elim}
 use mathlib.Core.Path.{ap, ◌∙◌}
 use Prim.Native.Nat.{ℕ, suc, ◌-◌, ◌≤◌}
 use native.Mathlib.Omega.{arith}
@@ -7,6 +6,7 @@ use Rattle.algebra.specs.Inverse.{pivot_row}
 use Rattle.sizes.proofs.Sizes.{bounds}
 use Rattle.inverse.proofs.Pivots.{Searching, searching-first, searching-past, searching-passed, searching-kept, searching-all}
 use Rattle.inverse.proofs.pivot_row.Goals as goal
+use Rattle.inverse.proofs.pivot_row.Goals.{then-i-rows+then-x-largest, then-i-rows+else-x-largest, else-i-rows}
 
 pub loop-i-init : goal.loop-i-init
 loop-i-init c =
@@ -17,12 +17,11 @@ pub loop-i-preserved : goal.loop-i-preserved
 loop-i-preserved c =
     let e = c.loop-i.invariant in (
       e.0,
-      ⊎_elim
-          (λ w. rw (w.4, w.5) (searching-passed e.1 w.0.taken w.2.ensures w.3.taken))
-          (⊎_elim
-          (λ w. rw (w.4, w.5) (searching-kept e.1 w.0.taken w.2.ensures w.3.left))
-          (λ w. rw (w.1, w.2) (searching-past e.1 w.0.left)))
-          c.if-i-rows.branch,
+      elim c.if-i-rows.branch [
+        | then-i-rows+then-x-largest w ↦ rw (w.p-is, w.largest-is) (searching-passed e.1 w.if-i-rows.true w.abs-x.ensures w.if-x-largest.true)
+        | then-i-rows+else-x-largest w ↦ rw (w.p-is, w.largest-is) (searching-kept e.1 w.if-i-rows.true w.abs-x.ensures w.if-x-largest.false)
+        | else-i-rows w ↦ rw (w.p-is, w.largest-is) (searching-past e.1 w.if-i-rows.false)
+      ],
     )
 
 pub returns : goal.returns

@@ -1,17 +1,17 @@
 -- `reduce_rows` meets its contract: the loop has replaced the rows passed, all but row col, and left the others.
-use mathlib.Core.Logic.{⊎_elim}
 use Prim.Native.Nat.{◌-◌}
 use native.Mathlib.Omega.{arith}
 use Rattle.inverse.proofs.Rows.{Reducing, reducing-none, reducing-stored, reducing-kept, reducing-all}
 use Rattle.inverse.proofs.reduce_rows.Goals as goal
+use Rattle.inverse.proofs.reduce_rows.Goals.{then-i-col, else-i-col}
 
 pub loop-i-preserved : goal.loop-i-preserved
 loop-i-preserved c =
     let fits = c.requires.1 in
-    ⊎_elim
-    (λ w. rw w.2 (reducing-stored c.loop-i.invariant fits (omega arith) w.0.taken))
-    (λ w. rw w.1 (reducing-kept c.loop-i.invariant fits (omega arith) w.0.left))
-    c.if-i-col.branch
+    elim c.if-i-col.branch [
+      | then-i-col w ↦ rw w.m-is (reducing-stored c.loop-i.invariant fits (omega arith) w.if-i-col.true)
+      | else-i-col w ↦ rw w.m-is (reducing-kept c.loop-i.invariant fits (omega arith) w.if-i-col.false)
+    ]
 
 pub returns : goal.returns
 returns c = reducing-all c.loop-i.invariant c.requires.1 (omega arith)
