@@ -1,4 +1,6 @@
 // src/core/matrix.rs and scalar.rs on slices that the caller lends; what the calls share is in `c_slices`.
+#![tactic(auto)]
+
 pub mod cells;
 pub mod matrices;
 pub mod numbers;

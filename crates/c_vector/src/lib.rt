@@ -1,5 +1,7 @@
 // src/core/matrix.rs on slices that the caller lends, the functions on vectors: each is a slice of its numbers. Refused with 1: a
 // size, or a slice of another length.
+#![tactic(auto)]
+
 ghost use Rattle.std.specs.Prelude.{◌≡◌, true, length};
 ghost use Rattle.answer.specs.Told.{given};
 ghost use Rattle.algebra.specs.Array.{cut};

@@ -1,5 +1,7 @@
 // Mixing of two models of one road, written out: two states each, by their numbers and not in arrays, so that a slice is read
 // where its numbers stand. Each sum starts at +0, as for any size.
+#![tactic(auto)]
+
 ghost use Rattle.std.specs.Prelude.{◌≡◌, [], ◌∷◌};
 ghost use Rattle.road.specs.Road.{matrix_of, estimate_of};
 ghost use Rattle.mixing.specs.Mixing.{mixed_estimate, mix_estimates};

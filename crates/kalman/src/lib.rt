@@ -1,5 +1,7 @@
 // src/estimator/kalman.rs at f64: the linear Kalman filter as a record by value, over the steps on lent rows. Each step takes
 // the record and hands back its answer and the record that it leaves; a refusal leaves it unchanged.
+#![tactic(auto)]
+
 ghost use Rattle.std.specs.Prelude.{◌≡◌};
 ghost use Rattle.algebra.specs.Array.{cut, used_flat};
 ghost use Rattle.sizes.specs.Size.{count};

@@ -1,5 +1,7 @@
 // One road, written out: two states, position and speed, one input and one measurement, by their numbers and not in arrays,
 // so that a record and a slice are both read where their numbers stand. Each sum starts at +0, as for any size.
+#![tactic(auto)]
+
 ghost use Rattle.std.specs.Prelude.{◌≡◌, [], ◌∷◌};
 ghost use Rattle.answer.specs.Outcome.{done};
 ghost use Rattle.filtering.specs.Filter.{gain as gain_of};

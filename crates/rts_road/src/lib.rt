@@ -1,5 +1,7 @@
 // A slot of two states by its numbers, smoothed as Rauch, Tung and Striebel do, with the operations and the order of
 // src/estimator/rts_smoother.rs. Each sum starts at +0, as for any size.
+#![tactic(auto)]
+
 ghost use Rattle.std.specs.Prelude.{◌≡◌};
 ghost use Rattle.road.specs.Road.{matrix_of, estimate_of};
 ghost use Rattle.smoothing.specs.Smoother.{smoothed_pair, smooth_slot};

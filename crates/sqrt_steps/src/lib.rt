@@ -1,5 +1,7 @@
 // The steps of the square-root filter on rows that the caller lends, with the operations and the order of
 // src/estimator/sqrt_kalman.rs: the state x, and the factor l with l × transposed l = the covariance.
+#![tactic(auto)]
+
 ghost use Rattle.std.specs.Prelude.{◌≡◌, [], ◌<◌};
 ghost use Rattle.answer.specs.Outcome.{handed};
 ghost use Rattle.answer.specs.Told.{status_of};

@@ -1,6 +1,8 @@
 // The parts of a filter's step, and the steps of the linear filter, on rows that the caller lends, with the operations and the
 // order of src/estimator/kalman.rs. Every filter and the smoother call the parts. A size is 1 to 4 by its type, so nothing is
 // tested or asked for; each result is made row by row, and no matrix in between is stored.
+#![tactic(auto)]
+
 ghost use Rattle.std.specs.Prelude.{◌≡◌, []};
 ghost use Rattle.algebra.specs.Array.{pad_row, pad};
 ghost use Rattle.sizes.specs.Size.{count, front, part};

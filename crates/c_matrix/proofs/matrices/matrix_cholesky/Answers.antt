@@ -1,0 +1,44 @@
+-- `matrix_cholesky` meets its contract.
+use mathlib.Core.Path.{sym, ap, ◌∙◌}
+use Prim.Native.Nat.{ℕ, ◌*◌}
+use native.Mathlib.Omega.{arith}
+use Rattle.algebra.specs.Cholesky.{cholesky}
+use Rattle.algebra.proofs.Factors.{shape-cholesky}
+use Rattle.sizes.specs.Size.{count}
+use Rattle.sizes.proofs.Sizes.{bounds, bounds_of}
+use Rattle.c_slices.specs.Slices.{rows}
+use Rattle.c_matrix.proofs.Products.{rows_in}
+use Rattle.c_slices.proofs.Ways.{Two, two_of, rows_at, answer-handed, if_refuses, none}
+use Rattle.c_matrix.proofs.matrices.matrix_cholesky.Lts as lts
+use Rattle.c_matrix.proofs.matrices.matrix_cholesky.Tie as tie
+use Rattle.c_matrix.proofs.matrices.matrix_cholesky.Reads as reads
+use Rattle.c_matrix.proofs.matrices.matrix_cholesky.Goals as goal
+
+abbrev Then-are_two_matrices : Type 0
+Then-are_two_matrices = lts.Then1 tie.the-claims reads.Pre reads.Post
+
+-- the two slices, whole
+whole : (t : Then-are_two_matrices) → let a = t.args in Two a.n a.n a.a.now a.n a.n a.out.now
+whole t =
+    let a = t.args in
+    two_of a.n a.n a.a.now a.n a.n a.out.now t.are_two_matrices.ensures t.if-are_two_matrices.true
+
+pub returns-then-are_two_matrices : goal.returns-then-are_two_matrices
+returns-then-are_two_matrices c =
+    let w = whole c.before.before.before.before.before.before.before.before.before.before.before.before in
+    let a = c.args in
+    let N = rows_at w.first c.size_of-s.ensures in
+    let n = count c.size_of-s.result in
+    let read = rows_in n n a.n a.a.now (bounds c.size_of-s.result).most (sym N) (w.first.long ∙ sym (ap (λ (k : ℕ). k * k) N))
+    c.vector_at-r0.ensures c.vector_at-r1.ensures c.vector_at-r2.ensures c.vector_at-r3.ensures in
+    answer-handed w.passed w.last (ap (cholesky n) read ∙ λ i. cholesky (N i) (rows (N i) (N i) a.a.now))
+    (λ B. shape-cholesky _ _ B) c.factor_of.ensures c.give_matrix.ensures
+
+pub overflow_mul-n : goal.overflow_mul-n
+overflow_mul-n c = omega (arith, bounds_of _ (whole c.before.before.before.before).first.rows)
+
+pub overflow_mul-n-then-are_two_matrices : goal.overflow_mul-n-then-are_two_matrices
+overflow_mul-n-then-are_two_matrices c = omega (arith, bounds_of _ (whole c.before.before.before.before.before).first.rows)
+
+pub returns-else-are_two_matrices : goal.returns-else-are_two_matrices
+returns-else-are_two_matrices c = if_refuses _ _ c.are_two_matrices.ensures c.if-are_two_matrices.false

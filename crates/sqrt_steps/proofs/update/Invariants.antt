@@ -1,0 +1,13 @@
+-- What the loop of `update` keeps.
+use Prim.Native.Nat.{◌-◌, ◌≤◌}
+use native.Mathlib.Omega.{arith}
+use borrow.Author.Rules.{rules}
+use Rattle.sizes.proofs.Sizes.{bounds}
+use Rattle.sqrt_steps.proofs.Updates.{Taking, taking_none, taking_more, taking_refused, taking_all, by_size}
+use Rattle.sqrt_steps.proofs.update.Given as goal
+
+abbrev pub invariant-loop-i : goal.invariant-loop-i
+invariant-loop-i l = (l.components ≤ 4) × Taking l.n l.components l.h l.r l.z l.initial.x l.initial.l l.i l.x l.l l.y
+
+abbrev pub decreases-loop-i : goal.decreases-loop-i
+decreases-loop-i l = l.components - l.i

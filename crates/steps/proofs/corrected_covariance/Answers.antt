@@ -1,0 +1,29 @@
+-- `corrected_covariance` meets its contract: a loop over the rows, each made by itself.
+use Prim.Native.Nat.{ℕ, ◌-◌, ◌≤◌, ◌<◌}
+use native.Mathlib.Omega.{arith}
+use mathlib.Core.Path.{◌≡◌, subst}
+use Rattle.algebra.specs.Matrix.{row}
+use Rattle.algebra.proofs.Arrays.{Rows, rows_none, rows_more, rows_all}
+use Rattle.sizes.specs.Size.{count, part}
+use Rattle.sizes.proofs.Sizes.{bounds}
+use Rattle.rows.proofs.RowWise.{rows_are}
+use Rattle.filtering.specs.Filter.{corrected_covariance}
+use Rattle.filtering.proofs.Shapes.{shape-corrected_covariance}
+use Rattle.four_states.proofs.Parts.{corrected-row}
+use Rattle.steps.proofs.corrected_covariance.Goals as goal
+
+pub loop-i-init : goal.loop-i-init
+loop-i-init c =
+    let e = c.number-rows.ensures in
+    ((e, omega (arith, e, bounds c.args.n)), rows_none _ _)
+
+pub loop-i-preserved : goal.loop-i-preserved
+loop-i-preserved c =
+    let v = c.loop-i.invariant in
+    let x = c.args in
+    let h : c.loop-i.i < count x.n = subst (λ (k : ℕ). c.loop-i.i < k) v.0.0 c.loop-i-test.true in
+    let made = corrected-row x.n x.m x.k.now x.h.now x.p.now _ h c.identity_rows-e.ensures c.row_product-kh.ensures c.row_difference-rest.ensures c.row_product.ensures c.leading.ensures in
+    (v.0, rows_more v.1 (bounds x.n).most h made)
+
+pub returns : goal.returns
+returns c = let v = c.loop-i.invariant in rows_all v.1 (omega (arith, v.0.0)) (rows_are (shape-corrected_covariance _ _ _ _ _))

@@ -1,0 +1,19 @@
+-- What the loop of `corrected_covariance` keeps.
+use Prim.Native.Nat.{ℕ, ◌-◌, ◌≤◌, ◌<◌}
+use native.Mathlib.Omega.{arith}
+use mathlib.Core.Path.{◌≡◌, subst}
+use Rattle.algebra.specs.Matrix.{row}
+use Rattle.algebra.proofs.Arrays.{Rows, rows_none, rows_more, rows_all}
+use Rattle.sizes.specs.Size.{count, part}
+use Rattle.sizes.proofs.Sizes.{bounds}
+use Rattle.rows.proofs.RowWise.{rows_are}
+use Rattle.filtering.specs.Filter.{corrected_covariance}
+use Rattle.filtering.proofs.Shapes.{shape-corrected_covariance}
+use Rattle.four_states.proofs.Parts.{corrected-row}
+use Rattle.steps.proofs.corrected_covariance.Given as goal
+
+abbrev pub invariant-loop-i : goal.invariant-loop-i
+invariant-loop-i l = ((l.rows ≡ count l.n) × (l.rows ≤ 4)) × Rows (λ i'. row (corrected_covariance (count l.n) (count l.m) (part l.n l.m l.k) (part l.m l.n l.h) (part l.n l.n l.p)) i') (count l.n) l.i l.out
+
+abbrev pub decreases-loop-i : goal.decreases-loop-i
+decreases-loop-i l = l.rows - l.i

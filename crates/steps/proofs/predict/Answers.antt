@@ -1,0 +1,9 @@
+-- `predict` meets its contract: its two parts.
+use Rattle.filtering.specs.Filter.{predicted_state}
+use Rattle.filtering.specs.Linear.{predict}
+use borrow.Author.Rules.{rules}
+use Rattle.steps.proofs.predict.Goals as goal
+
+pub returns : goal.returns
+unfolding predict predicted_state
+returns c = λ k. (c.predicted_state.ensures k, c.propagated.ensures k)

@@ -1,0 +1,20 @@
+-- What the loop of `propagated` keeps.
+use Prim.Native.Nat.{ℕ, ◌-◌, ◌≤◌, ◌<◌}
+use native.Mathlib.Omega.{arith}
+use mathlib.Core.Path.{◌≡◌, sym, subst, ◌∙◌}
+use Rattle.algebra.specs.Matrix.{row}
+use Rattle.algebra.specs.Array.{used, pad}
+use Rattle.algebra.proofs.Arrays.{Rows, rows_none, rows_more, rows_all}
+use Rattle.sizes.specs.Size.{count, part}
+use Rattle.sizes.proofs.Sizes.{bounds}
+use Rattle.rows.proofs.RowWise.{rows_are}
+use Rattle.filtering.specs.Filter.{propagated}
+use Rattle.filtering.proofs.Shapes.{shape-propagated}
+use Rattle.four_states.proofs.Parts.{propagated-row}
+use Rattle.steps.proofs.propagated.Given as goal
+
+abbrev pub invariant-loop-i : goal.invariant-loop-i
+invariant-loop-i l = ((l.rows ≡ count l.r) × (l.rows ≤ 4)) × Rows (λ i'. row (propagated (count l.r) (count l.n) (part l.r l.n l.a) (part l.n l.n l.p) (part l.r l.r l.q)) i') (count l.r) l.i l.out
+
+abbrev pub decreases-loop-i : goal.decreases-loop-i
+decreases-loop-i l = l.rows - l.i
