@@ -1,5 +1,7 @@
 // A filter of state n, measurement m and input i in one slice that the caller lends, a, b, h, q, r, x and p by rows, one after
 // another: its sizes, and the calls of src/estimator/kalman.rs that copy. Refused with 1: a size, or a slice of another length.
+#![tactic(auto)]
+
 ghost use Rattle.std.specs.Prelude.{◌≡◌, true, cond, ◌≤◌, length};
 ghost use Rattle.answer.specs.Told.{given};
 ghost use Rattle.steps.specs.Step.{well_sized};

@@ -1,5 +1,7 @@
 // src/estimator/imm.rs at f64: a bank of models as a record by value, over the steps on lent rows. Each step takes the record
 // and hands back its answer and the record that it leaves; a refusal leaves it unchanged. `update_all` is not ported.
+#![tactic(auto)]
+
 ghost use Rattle.std.specs.Prelude.{◌≡◌};
 ghost use Rattle.imm.specs.Record.{states_of, covariances_of, likelihoods_of, with_estimate, with_estimates, no_model, no_estimator};
 ghost use Rattle.imm.specs.Record.{new_of, mix_of, probabilities_of, fused_of, probability_of};

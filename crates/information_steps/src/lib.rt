@@ -1,6 +1,8 @@
 // The steps of the information filter on rows that the caller lends, with the operations and the order of
 // src/estimator/information_filter.rs: omega is the inverted covariance, and xi is omega times the state. The parts that every
 // filter has are those of `steps`. A size is 1 to 4 by its type, so nothing is tested or asked for.
+#![tactic(auto)]
+
 ghost use Rattle.std.specs.Prelude.{◌≡◌, []};
 ghost use Rattle.answer.specs.Outcome.{into, handed};
 ghost use Rattle.answer.specs.Told.{status_of};

@@ -1,6 +1,8 @@
 // The pass of Rauch, Tung and Striebel over slots in a buffer that the caller lends, with the operations and the order of
 // src/estimator/rts_smoother.rs. How slots lie in it: crates/duty; two states go by their numbers (two.rt).
 // Rests on the definition in crates/smoothing.
+#![tactic(auto)]
+
 ghost use Rattle.std.specs.Prelude.{◌≡◌, ◌+◌, ◌*◌, ◌≤◌, length};
 ghost use Rattle.sizes.specs.Size.{count, part};
 ghost use Rattle.layout.specs.Layout.{pair_length, stride};

@@ -6,23 +6,7 @@ use borrow.Author.Rules.{rules}
 use Rattle.sizes.proofs.Sizes.{bounds}
 use Rattle.matrix.proofs.Results.{answered-value, refused-number}
 use Rattle.sqrt_steps.proofs.Columns.{when_turned, when_refused}
-use Rattle.sqrt_steps.proofs.rotate.Lts as lts
-use Rattle.sqrt_steps.proofs.rotate.Tie as tie
-use Rattle.sqrt_steps.proofs.rotate.Reads as reads
 use Rattle.sqrt_steps.proofs.rotate.Goals as goal
-
-abbrev In-Value : Type 0
-In-Value = lts.After-known_told tie.the-claims reads.Pre reads.Post
-
-abbrev Start : Type 0
-Start = lts.Start tie.the-claims reads.Pre reads.Post
-
--- k is the number of a column
-below : (c : Start) → c.args.k < 4
-below c = omega (arith, c.requires, bounds c.args.n)
-
-column : (c : In-Value) → c.args.k < 4
-column c = below c.before.before.before.before
 
 pub returns-in-Value : goal.returns-in-Value
 returns-in-Value c =
@@ -36,43 +20,43 @@ returns-in-Refused c =
     when_refused a.n a.k a.l.now a.v.now c.requires (refused-number _ c.turned_diagonal.ensures c.in-Refused.is)
 
 pub offset_bounds-l-k : goal.offset_bounds-l-k
-offset_bounds-l-k c = omega (arith, below c)
+offset_bounds-l-k c = omega (arith, c.requires, bounds c.args.n)
 
 pub offset_bounds-l-k-2 : goal.offset_bounds-l-k-2
-offset_bounds-l-k-2 c = omega (arith, below c)
+offset_bounds-l-k-2 c = omega (arith, c.requires, bounds c.args.n)
 
 pub bounds-l-k : goal.bounds-l-k
-bounds-l-k c = omega (arith, below c)
+bounds-l-k c = omega (arith, c.requires, bounds c.args.n)
 
 pub bounds-l-k-2 : goal.bounds-l-k-2
-bounds-l-k-2 c = omega (arith, below c)
+bounds-l-k-2 c = omega (arith, c.requires, bounds c.args.n)
 
 pub offset_bounds-v-k : goal.offset_bounds-v-k
-offset_bounds-v-k c = omega (arith, below c.before)
+offset_bounds-v-k c = omega (arith, c.requires, bounds c.args.n)
 
 pub bounds-v-k : goal.bounds-v-k
-bounds-v-k c = omega (arith, below c.before)
+bounds-v-k c = omega (arith, c.requires, bounds c.args.n)
 
 pub offset_bounds-l-k-in-Value : goal.offset_bounds-l-k-in-Value
-offset_bounds-l-k-in-Value c = omega (arith, column c)
+offset_bounds-l-k-in-Value c = omega (arith, c.requires, bounds c.args.n)
 
 pub bounds-l-k-in-Value : goal.bounds-l-k-in-Value
-bounds-l-k-in-Value c = omega (arith, column c)
+bounds-l-k-in-Value c = omega (arith, c.requires, bounds c.args.n)
 
 pub offset_bounds-l-k-in-Value-2 : goal.offset_bounds-l-k-in-Value-2
-offset_bounds-l-k-in-Value-2 c = omega (arith, column c.before)
+offset_bounds-l-k-in-Value-2 c = omega (arith, c.requires, bounds c.args.n)
 
 pub bounds-l-k-in-Value-2 : goal.bounds-l-k-in-Value-2
-bounds-l-k-in-Value-2 c = omega (arith, column c.before)
+bounds-l-k-in-Value-2 c = omega (arith, c.requires, bounds c.args.n)
 
 pub offset_bounds-l-k-in-Value-3 : goal.offset_bounds-l-k-in-Value-3
-offset_bounds-l-k-in-Value-3 c = omega (arith, column c.before.before)
+offset_bounds-l-k-in-Value-3 c = omega (arith, c.requires, bounds c.args.n)
 
 pub bounds-l-k-in-Value-3 : goal.bounds-l-k-in-Value-3
-bounds-l-k-in-Value-3 c = omega (arith, column c.before.before)
+bounds-l-k-in-Value-3 c = omega (arith, c.requires, bounds c.args.n)
 
 pub offset_bounds-l-k-in-Value-4 : goal.offset_bounds-l-k-in-Value-4
-offset_bounds-l-k-in-Value-4 c = omega (arith, column c.before.before.before)
+offset_bounds-l-k-in-Value-4 c = omega (arith, c.requires, bounds c.args.n)
 
 pub bounds-l-k-in-Value-4 : goal.bounds-l-k-in-Value-4
-bounds-l-k-in-Value-4 c = omega (arith, column c.before.before.before)
+bounds-l-k-in-Value-4 c = omega (arith, c.requires, bounds c.args.n)

@@ -1,0 +1,22 @@
+-- What the loop of `informed_matrix` keeps.
+use Prim.Native.Nat.{ℕ, ◌-◌, ◌≤◌, ◌<◌}
+use native.Mathlib.Omega.{arith}
+use mathlib.Core.Path.{◌≡◌, sym, subst, ◌∙◌}
+use mathlib.Core.List.{[]}
+use Rattle.algebra.specs.Matrix.{row}
+use Rattle.algebra.specs.Array.{cut, used, pad}
+use Rattle.algebra.proofs.Arrays.{Rows, rows_none, rows_more, rows_all}
+use Rattle.sizes.specs.Size.{count, part}
+use Rattle.sizes.proofs.Sizes.{bounds}
+use Rattle.rows.proofs.RowWise.{rows_are}
+use Rattle.filtering.specs.Information.{informed}
+use Rattle.information_steps.specs.Step.{information_rows}
+use Rattle.information_steps.proofs.Ways.{shape-informed}
+use Rattle.information_steps.proofs.Additions.{informed-row}
+use Rattle.information_steps.proofs.informed_matrix.Given as goal
+
+abbrev pub invariant-loop-i : goal.invariant-loop-i
+invariant-loop-i l = ((l.rows ≡ count l.n) × (l.rows ≤ 4)) × Rows (λ i'. row (informed (count l.n) (count l.m) (part l.m l.n l.h) (part l.m l.m l.w) [] (information_rows l.n l.omega [])).matrix i') (count l.n) l.i l.out
+
+abbrev pub decreases-loop-i : goal.decreases-loop-i
+decreases-loop-i l = l.rows - l.i
