@@ -39,7 +39,7 @@ returns-then-p0-n c =
     let from = c.estimate_place-from.ensures.0 in
     let is = then-placed a.x0.now a.p0.now a.filter.now (omega (arith, s.whole.long, from)) (omega (arith, s.same))
     (slice-put _ a.filter.now a.x0.now (omega (arith, s.same, s.whole.long, from)) c.put_slice.ensures)
-    (slice-put _ _ a.p0.now (omega (arith, c.if-p0-n.true, s.whole.long, from, c.put_slice.auto.0)) c.put_slice-then-p0-n.ensures)
+    (slice-put _ _ a.p0.now (omega (arith, c.if-p0-n.true, s.whole.long, from, c.put_slice.auto.b)) c.put_slice-then-p0-n.ensures)
     ∙ ap (λ (j : ℕ). placed j (a.x0.now ++ a.p0.now) a.filter.now) from in
     (λ j. (0, is j))
     ∙ ap (by a.n a.m a.i a.filter.now a.x0.now a.p0.now)

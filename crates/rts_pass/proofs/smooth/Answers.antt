@@ -36,10 +36,10 @@ size_is : (c : After-size_of) → count c.size_of.result ≡ c.args.n
 size_is c = is_count (sizes c.before.before).buffer.sizes.size c.size_of.ensures
 
 -- the output is no longer than the buffer
-shorter : (c : After-smooth_slots-status) → length c.args.output.now ≤ length c.smooth_slots-status.new.1.1.1.1.0
+shorter : (c : After-smooth_slots-status) → length c.args.output.now ≤ length c.smooth_slots-status.new.out
 shorter c =
     let s = sizes c.before.before.before.before.before in
-    omega (arith, s.output, output-small s.buffer.sizes.bounds.most s.buffer.sizes.few, c.smooth_slots-status.auto.1.1.1.1.0)
+    omega (arith, s.output, output-small s.buffer.sizes.bounds.most s.buffer.sizes.few, c.smooth_slots-status.auto.out)
 
 pub returns-then-count-eq0 : goal.returns-then-count-eq0
 returns-then-count-eq0 c =

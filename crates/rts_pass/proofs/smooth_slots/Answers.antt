@@ -73,7 +73,7 @@ smooth_slots_two-requires c =
 pub returns-then-size-eq2 : goal.returns-then-size-eq2
 returns-then-size-eq2 c =
     let a = c.args in
-    subst⁻¹ (λ (m : ℕ). Passed (smooth_slots m (used m m a.f.now) (slots_of m a.slots.now a.stored)) a.out.now c.smooth_slots_two.new.1.1.1.0 c.smooth_slots_two.result)
+    subst⁻¹ (λ (m : ℕ). Passed (smooth_slots m (used m m a.f.now) (slots_of m a.slots.now a.stored)) a.out.now c.smooth_slots_two.new.out c.smooth_slots_two.result)
     (two c.before.before.before.before.before) c.smooth_slots_two.ensures
 
 pub loop-k-init : goal.loop-k-init
@@ -91,8 +91,8 @@ loop-k-preserved c =
     let l = c.loop-k in
     let (r, ea, er) = left-done arrays_of _ _ c.step-status.ensures c.in-Done.is in
     let g = going_more _ _ _ _ l.invariant {j = l.k - 1} (omega (arith, c.loop-k-test)) (ap (λ (i : ℕ). slot_from (count a.n) a.slots.now ((l.k - 1) * i)) (stride_is c.before.before.before.before.before.before.before.before.before.before.before.before.before.before.before)) ea
-    (ap (λ (i : ℕ). l.k * i) (pair_is c.before.before.before.before.before.before.before.before.before.before.before.before.before.before.before)) (pair-placed _ _ _ _ refl (put-room c.before.before.before.before.before.before.before.before.before.before.before) c.put_pair.ensures) c.put_pair.auto.0 in
-    subst⁻¹ (λ (e : Estimate). Going (count a.n) (part a.n a.n a.f.now) a.slots.now a.stored a.out.now (l.k - 1) e c.put_pair.new.0) (held a.n g.paired er) g
+    (ap (λ (i : ℕ). l.k * i) (pair_is c.before.before.before.before.before.before.before.before.before.before.before.before.before.before.before)) (pair-placed _ _ _ _ refl (put-room c.before.before.before.before.before.before.before.before.before.before.before) c.put_pair.ensures) c.put_pair.auto.b in
+    subst⁻¹ (λ (e : Estimate). Going (count a.n) (part a.n a.n a.f.now) a.slots.now a.stored a.out.now (l.k - 1) e c.put_pair.new.b) (held a.n g.paired er) g
 
 pub returns-in-Refused : goal.returns-in-Refused
 returns-in-Refused c =
@@ -107,7 +107,7 @@ returns c =
     going_done _ _ _ _ v (omega (arith, c.loop-k-test)) (pair-placed _ _ _ _ refl (omega (arith, put-room c.before.before.before.before.before.before.before)) c.put_pair-2.ensures)
 
 pub shape_of-out-then-size-eq2 : goal.shape_of-out-then-size-eq2
-shape_of-out-then-size-eq2 c = c.smooth_slots_two.auto.1.1.1.0
+shape_of-out-then-size-eq2 c = c.smooth_slots_two.auto.out
 
 pub overflow_mul-pair : goal.overflow_mul-pair
 overflow_mul-pair c = omega (arith, few c.args.n c.args.n c.number-size.ensures c.number-size.ensures)
@@ -143,7 +143,7 @@ pub loop-k-smaller : goal.loop-k-smaller
 loop-k-smaller c = omega (arith, c.loop-k-test)
 
 pub shape_of-out-in-Refused : goal.shape_of-out-in-Refused
-shape_of-out-in-Refused c = c.put_pair.auto.0 ∙ c.loop-k.invariant.long
+shape_of-out-in-Refused c = c.put_pair.auto.b ∙ c.loop-k.invariant.long
 
 pub shape_of-out : goal.shape_of-out
-shape_of-out c = c.put_pair-2.auto.0 ∙ c.loop-k.invariant.long
+shape_of-out c = c.put_pair-2.auto.b ∙ c.loop-k.invariant.long

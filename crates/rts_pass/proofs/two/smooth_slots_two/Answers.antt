@@ -34,7 +34,7 @@ pub loop-k-preserved : goal.loop-k-preserved
 unfolding used cut
 loop-k-preserved c =
     let (r, ea, er) = left-done (λ e. e) _ _ c.smooth_two-s.ensures c.in-Done.is in
-    going_more _ _ _ _ c.loop-k.invariant (omega (arith, c.loop-k-test)) (slot_read c.before.before.before.before) (ea ∙ ap answered (sym er)) refl c.put_two.ensures c.put_two.auto.0
+    going_more _ _ _ _ c.loop-k.invariant (omega (arith, c.loop-k-test)) (slot_read c.before.before.before.before) (ea ∙ ap answered (sym er)) refl c.put_two.ensures c.put_two.auto.out
 
 pub returns-in-Refused : goal.returns-in-Refused
 unfolding used cut
@@ -70,10 +70,10 @@ pub loop-k-smaller : goal.loop-k-smaller
 loop-k-smaller c = omega (arith, c.loop-k-test)
 
 pub shape_of-out-in-Refused : goal.shape_of-out-in-Refused
-shape_of-out-in-Refused c = c.put_two.auto.0 ∙ c.loop-k.invariant.long
+shape_of-out-in-Refused c = c.put_two.auto.out ∙ c.loop-k.invariant.long
 
 pub put_two-requires-2 : goal.put_two-requires-2
 put_two-requires-2 c = omega (arith, going_room _ _ _ _ c.loop-k.invariant)
 
 pub shape_of-out : goal.shape_of-out
-shape_of-out c = c.put_two-2.auto.0 ∙ c.loop-k.invariant.long
+shape_of-out c = c.put_two-2.auto.out ∙ c.loop-k.invariant.long
