@@ -1,6 +1,8 @@
 // src/estimator/imm.rs on a slice that the caller lends: a bank of k models of n states and m measurements is, for each model, a,
 // x, p, q and its likelihood, then the transition, c, r and the probabilities mu, by rows, one after another. Numbers are read and
 // written where they stand, each once. Refused with 1: a size, or a slice of another length. How a bank is made: crates/c_imm.
+#![tactic(auto)]
+
 ghost use Rattle.std.specs.Prelude.{◌≡◌, true, ◌+◌, ◌*◌, ◌≤◌, ◌<◌, length, replicate};
 ghost use Rattle.answer.specs.Told.{given};
 ghost use Rattle.scalar.specs.Number.{+0};

@@ -1,5 +1,7 @@
 // One road in a slice that the caller lends, a filter of two states, one measurement and one input: its sizes, its nineteen numbers
 // where they stand, and a filter of position and speed made of them. Every filter's steps are written out for it, and for a plane.
+#![tactic(auto)]
+
 ghost use Rattle.std.specs.Prelude.{◌≡◌, cond, eqb, length};
 ghost use Rattle.scalar.specs.Number.{+0};
 ghost use Rattle.answer.specs.Told.{given};

@@ -32,8 +32,8 @@ returns-then-is_parts c =
     let e2 = put_next g f 2 (omega arith) (omega (arith, g)) (omega (arith, g, c.put_slice.auto.b, c.put_slice-then-is_parts.auto.b, g.whole.long)) e1 c.put_slice-then-is_parts-2.ensures in
     let e3 = put_next g f 3 (omega arith) (omega (arith, g)) (omega (arith, g, c.put_slice.auto.b, c.put_slice-then-is_parts.auto.b, c.put_slice-then-is_parts-2.auto.b, g.whole.long)) e2 c.put_slice-then-is_parts-3.ensures in
     let e4 = put_next g f 4 (omega arith) (omega (arith, g)) (omega (arith, g, c.put_slice.auto.b, c.put_slice-then-is_parts.auto.b, c.put_slice-then-is_parts-2.auto.b, c.put_slice-then-is_parts-3.auto.b, g.whole.long)) e3 c.put_slice-then-is_parts-4.ensures in
-    let e5 = put_next g f 5 (omega arith) (omega (arith, g)) (omega (arith, g, c.put_slice.auto.b, c.put_slice-then-is_parts.auto.b, c.put_slice-then-is_parts-2.auto.b, c.put_slice-then-is_parts-3.auto.b, c.put_slice-then-is_parts-4.auto.0, g.whole.long)) e4 c.put_slice-then-is_parts-5.ensures in
-    let e6 = put_next g f 6 (omega arith) (omega (arith, g)) (omega (arith, g, c.put_slice.auto.b, c.put_slice-then-is_parts.auto.b, c.put_slice-then-is_parts-2.auto.b, c.put_slice-then-is_parts-3.auto.b, c.put_slice-then-is_parts-4.auto.0, c.put_slice-then-is_parts-5.auto.0, g.whole.long)) e5 c.put_slice-then-is_parts-6.ensures in
+    let e5 = put_next g f 5 (omega arith) (omega (arith, g)) (omega (arith, g, c.put_slice.auto.b, c.put_slice-then-is_parts.auto.b, c.put_slice-then-is_parts-2.auto.b, c.put_slice-then-is_parts-3.auto.b, c.put_slice-then-is_parts-4.auto.b, g.whole.long)) e4 c.put_slice-then-is_parts-5.ensures in
+    let e6 = put_next g f 6 (omega arith) (omega (arith, g)) (omega (arith, g, c.put_slice.auto.b, c.put_slice-then-is_parts.auto.b, c.put_slice-then-is_parts-2.auto.b, c.put_slice-then-is_parts-3.auto.b, c.put_slice-then-is_parts-4.auto.b, c.put_slice-then-is_parts-5.auto.b, g.whole.long)) e5 c.put_slice-then-is_parts-6.ensures in
     let is = put_all g f refl e6 in
     (λ j. (0, is j)) ∙ ap (λ (b : Bool). given f (where_sized b (joined (a.a.now ∷ a.b.now ∷ a.h.now ∷ a.q.now ∷ a.r.now ∷ a.x0.now ∷ a.p0.now ∷ [])))) (sym (sym c.is_parts.ensures ∙ c.if-is_parts.true))
 
