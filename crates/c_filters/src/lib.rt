@@ -1,6 +1,8 @@
 // src/estimator/kalman.rs on a slice that the caller lends: a filter of state n, measurement m and input i is a, b, h, q, r, x
 // and p by rows, one after another. A step reads the parts that it needs as rows, once, and writes x and p back, once. Refused
 // with 1: a size, or a slice of another length. The calls that copy: crates/c_copies; a filter of position and speed: crates/c_roads.
+#![tactic(auto)]
+
 ghost use Rattle.std.specs.Prelude.{◌≡◌};
 ghost use Rattle.c_copies.specs.Filter.{predict_in, update_in};
 

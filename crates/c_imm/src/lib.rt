@@ -1,5 +1,7 @@
 // src/estimator/imm.rs on a slice that the caller lends: a bank made of its parts, and mixing, with two models of one road written out. What a
 // bank is, mixing for any sizes and what is asked of a bank: crates/c_bank. Refused with 1: a size, or a slice of another length.
+#![tactic(auto)]
+
 ghost use Rattle.std.specs.Prelude.{◌≡◌, ◌++◌, ◌+◌, ◌≤◌, length};
 ghost use Rattle.answer.specs.Told.{given};
 ghost use Rattle.layout.specs.Layout.{joined, placed, total, bank_parts};

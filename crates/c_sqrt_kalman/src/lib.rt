@@ -1,6 +1,8 @@
 // src/estimator/sqrt_kalman.rs on a slice that the caller lends: a filter of state n, measurement m and input i is a, b, h, q,
 // r_diag, x and the factor s by rows, one after another. Refused with 1: a size, or a slice of another length. The steps:
 // crates/c_sqrt_steps.
+#![tactic(auto)]
+
 ghost use Rattle.std.specs.Prelude.{◌≡◌, true, [], ◌∷◌, ◌≤◌, length};
 ghost use Rattle.answer.specs.Told.{given};
 ghost use Rattle.steps.specs.Step.{well_sized};

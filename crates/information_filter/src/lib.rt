@@ -1,6 +1,8 @@
 // src/estimator/information_filter.rs at f64: the information filter as a record by value, over the steps on lent rows. Each step
 // takes the record and hands back its answer and the record that it leaves; the one refusal that changes it is an update's on
 // the matrix that the addition made.
+#![tactic(auto)]
+
 ghost use Rattle.std.specs.Prelude.{◌≡◌};
 ghost use Rattle.algebra.specs.Array.{cut};
 ghost use Rattle.sizes.specs.Size.{count};

@@ -1,5 +1,7 @@
 // src/estimator/sqrt_kalman.rs at f64: the square-root filter as a record by value, over the steps on lent rows. Each step takes
 // the record and hands back its answer and the record that it leaves; what a refusal leaves is the step's.
+#![tactic(auto)]
+
 ghost use Rattle.std.specs.Prelude.{◌≡◌};
 ghost use Rattle.algebra.specs.Array.{cut, rows_of_flat, flat_of_rows};
 ghost use Rattle.answer.specs.Answer.{if_sized};
