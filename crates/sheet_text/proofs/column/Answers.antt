@@ -1,6 +1,6 @@
 -- A column is a digit, the minus before the digits, or a space.
-use Rattle.std.proofs.Common.{◌≡◌, true, false, sym, ◌∙◌}
-use Rattle.sheets.proofs.Writing.{reaches-zero, column_digit, column-minus, column_space, space_plain, space_far, ten}
+use Rattle.std.proofs.Common.{sym, ◌∙◌}
+use Rattle.sheets.proofs.Writing.{column_digit, column-minus, column_space, space_plain, space_far, ten}
 use Rattle.sheet_text.proofs.column.Goals as goal
 
 pub nonzero_div-result : goal.nonzero_div-result
@@ -11,29 +11,20 @@ returns-then-reaches c =
     let a = c.args in
     rw c.power.ensures.0 (sym (column_digit a.below a.k a.size (sym c.reaches.ensures ∙ c.if-reaches.true)))
 
-pub returns-then-k-eq0 : goal.returns-then-k-eq0
-returns-then-k-eq0 c =
-    let a = c.args in
-    let z : true ≡ false = sym (reaches-zero a.k a.size c.if-k-eq0.true) ∙ sym c.reaches.ensures ∙ c.if-reaches.false in
-    cc
-
 pub returns-then-reaches-2 : goal.returns-then-reaches-2
 returns-then-reaches-2 c =
-    let b = c.before.before.before.before.before in
-    let a = b.args in
-    sym (column-minus a.below a.k a.size (sym b.reaches.ensures ∙ c.if-reaches.false) c.if-below.true
+    let a = c.args in
+    sym (column-minus a.below a.k a.size (sym c.reaches.ensures ∙ c.if-reaches.false) c.if-below.true
     (sym c.reaches-then-below.ensures ∙ c.if-reaches-2.true))
 
 pub returns-else-reaches-2 : goal.returns-else-reaches-2
 returns-else-reaches-2 c =
-    let b = c.before.before.before.before.before in
-    let a = b.args in
-    sym (column_space a.below a.k a.size (sym b.reaches.ensures ∙ c.if-reaches.false)
+    let a = c.args in
+    sym (column_space a.below a.k a.size (sym c.reaches.ensures ∙ c.if-reaches.false)
     (space_far a.below _ (sym c.reaches-then-below.ensures ∙ c.if-reaches-2.false)))
 
 pub returns-else-below : goal.returns-else-below
 returns-else-below c =
-    let b = c.before.before.before in
-    let a = b.args in
-    sym (column_space a.below a.k a.size (sym b.reaches.ensures ∙ c.if-reaches.false)
+    let a = c.args in
+    sym (column_space a.below a.k a.size (sym c.reaches.ensures ∙ c.if-reaches.false)
     (space_plain a.below _ c.if-below.false))

@@ -45,21 +45,6 @@ returns-then-s-at c = let a = c.args in rw (field-short a.s.now a.at (omega arit
 pub returns-then-i-eq8 : goal.returns-then-i-eq8
 returns-then-i-eq8 c = let a = c.args in rw (blank a.s.now a.at c.spaces-i.result (omega arith) c.spaces-i.ensures c.if-i-eq8.true)
 
-pub overflow_add-at : goal.overflow_add-at
-overflow_add-at c = let a = c.args in omega (arith, upto a.s.now a.at c.spaces-i.result (omega arith) c.spaces-i.ensures)
-
-pub bounds-s-at : goal.bounds-s-at
-bounds-s-at c = let a = c.args in omega (arith, upto a.s.now a.at c.spaces-i.result (omega arith) c.spaces-i.ensures)
-
-pub overflow_add-i : goal.overflow_add-i
-overflow_add-i c = let a = c.args in omega (arith, upto a.s.now a.at c.spaces-i.result (omega arith) c.spaces-i.ensures)
-
-pub read_digits-requires : goal.read_digits-requires
-read_digits-requires c = let a = c.args in omega (arith, upto a.s.now a.at c.spaces-i.result (omega arith) c.spaces-i.ensures)
-
-pub read_digits-requires-else-s-at-eq45 : goal.read_digits-requires-else-s-at-eq45
-read_digits-requires-else-s-at-eq45 c = let a = c.args in omega (arith, upto a.s.now a.at c.spaces-i.result (omega arith) c.spaces-i.ensures)
-
 pub returns-in-Bad : goal.returns-in-Bad
 returns-in-Bad c =
     let a = c.args in
