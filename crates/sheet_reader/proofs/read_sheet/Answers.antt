@@ -32,12 +32,6 @@ returns-then-r-ne0 c =
     c.read_ends-e.result c.read_ends-e.ensures c.if-e-ne0.false
     c.read_readings-r.result c.read_readings-r.ensures c.if-r-ne0.true))
 
-pub overflow_mul-count : goal.overflow_mul-count
-overflow_mul-count c = let f = head_few _ _ c.read_head-h.ensures c.if-h-ne0.false in omega (arith, f.few-readings)
-
-pub overflow_add-from-2 : goal.overflow_add-from-2
-overflow_add-from-2 c = let f = head_few _ _ c.read_head-h.ensures c.if-h-ne0.false in omega (arith, f.few-stages, f.few-readings)
-
 pub overflow_add-h-then-s-from : goal.overflow_add-h-then-s-from
 overflow_add-h-then-s-from c = let f = head_few _ _ c.read_head-h.ensures c.if-h-ne0.false in omega (arith, f.few-stages)
 
