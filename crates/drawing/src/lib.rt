@@ -1,5 +1,7 @@
 // A duty drawn as the text of an SVG element: the stages as bands, the axes, the smoothed line, the readings, and the stages that
 // smoothing moved. Everything is in whole numbers; drawing is proved safe and to end, and which bytes are drawn is not stated.
+#![tactic(auto)]
+
 ghost use Rattle.std.specs.Prelude.{◌≡◌, ◌≤◌, length};
 ghost use Rattle.drawing.specs.Place.{place_of};
 

@@ -12,7 +12,6 @@ use Rattle.sheets.proofs.Lines.{form-fields}
 use Rattle.sheet_text.specs.Held.{field_of, whole_of}
 use Rattle.sheet_text.specs.declared.Whole.{Whole}
 use Rattle.sheet_text.specs.declared.Field.{Field}
-use Rattle.sheet_text.specs.declared.Field.TheVariants as Field
 
 and_true : (b : Bool) → (b && true) ≡ b
 and_true true = refl

@@ -1,4 +1,6 @@
 // A depot sheet read from its bytes, line by line: what it says in whole numbers, or the refusal and its line.
+#![tactic(auto)]
+
 ghost use Rattle.std.specs.Prelude.{◌≡◌};
 ghost use Rattle.sheets.specs.Sheet.{read_sheet};
 ghost use Rattle.sheet_reader.specs.Held.{no_sheet, sheet_held};

@@ -7,9 +7,7 @@ use Rattle.sheets.specs.Field.{read_field, read_digits, positive, negative, colu
 use Rattle.sheets.specs.Line.{field_at, in_range}
 use Rattle.sheet_text.specs.Held.{Skipped, digits_of, field_in, field_of, whole_of, number_of}
 use Rattle.sheet_text.specs.declared.Digits.{Digits}
-use Rattle.sheet_text.specs.declared.Digits.TheVariants as Digits
 use Rattle.sheet_text.specs.declared.Field.{Field}
-use Rattle.sheet_text.specs.declared.Field.TheVariants as Field
 
 -- ---- reading
 

@@ -3,7 +3,7 @@ use Rattle.std.proofs.Common.{◌≡◌, ℕ, zero, suc, ◌+◌, ◌-◌, ◌*�
 use mathlib.Core.Option.{none, some}
 use native.Mathlib.Nat.{div-eq_of_lt}
 use lib.Arith.{digits_div}
-use lib.Ieee.{Float, nan, inf, fin, binary64, up, down, lt, eq, le, neg, of_int, round, to_unsigned, below}
+use lib.Ieee.{Float, nan, inf, fin, binary64, up, down, lt, eq, le, neg, of_int, round, to_unsigned}
 use lib.Ieee.Fits.{down_pos}
 use lib.Ieee.Exact.{HasValue}
 use lib.Ieee.Back.{round_whole}
@@ -12,7 +12,6 @@ use Rattle.sheets.specs.Metres.{signed}
 use Rattle.sheets.specs.Metres.{floor_of, metres_of, keep}
 use Rattle.sheet_text.specs.Held.{field_of}
 use Rattle.sheet_text.specs.declared.Field.{Field}
-use Rattle.sheet_text.specs.declared.Field.TheVariants as Field
 use Rattle.sheet_text.proofs.Limits.{zero_f, big_f, low_f, zero_le, le_zero, under_big, lt_big, low-under, low_le, no, far-below, holds}
 
 -- ---- not below zero

@@ -6,9 +6,7 @@ use Rattle.sheets.specs.Field.{read_field}
 use Rattle.sheets.specs.Line.{field_at}
 use Rattle.sheet_text.specs.declared.Whole.{Whole}
 use Rattle.sheet_text.specs.declared.Field.{Field}
-use Rattle.sheet_text.specs.declared.Field.TheVariants as Field
 use Rattle.sheet_text.specs.declared.Digits.{Digits}
-use Rattle.sheet_text.specs.declared.Digits.TheVariants as Digits
 
 -- the whole number that a record of a sign and a size says
 abbrev pub number_of : Whole → ℤ

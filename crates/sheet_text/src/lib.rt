@@ -1,5 +1,7 @@
 // The numbers of a depot sheet: a field of eight bytes read where it stands, and written by one table of powers of ten. No public
 // function asks anything of its caller.
+#![tactic(auto)]
+
 ghost use Rattle.std.specs.Prelude.{◌≡◌, ◌+◌, ◌^◌, ◌<◌, ◌≤◌, length, take, drop};
 ghost use Rattle.sheets.specs.Field.{read_digits, reaches as reached, column as column_byte, columns, write_field};
 ghost use Rattle.sheets.specs.Line.{in_range};
