@@ -6,7 +6,6 @@ ghost use Rattle.std.specs.Prelude.{◌≤◌};
 use protocol::filter::{N, Sizes, parts_of, step_cells};
 use protocol::words::{C, F, P, R, S, U, part, size_at, whole_at};
 use protocol::{given, names};
-use std::num::wrapping_add_usize;
 
 mod linear;
 
@@ -100,7 +99,7 @@ fn on_filter(op: usize, s: Sizes, filter: &mut [f64], v: &[f64], given: &[u8], a
     let end = 3 + filter.len();
     let begun = begin(op, s, part(v, 3, end), filter, at);
     let first = first_letter(op, whole_at(v, end));
-    let from = wrapping_add_usize(end, is_sequence(op) as usize);
+    let from = end.wrapping_add(is_sequence(op) as usize);
     steps(op, first, s, filter, v, from, given, begun)
 }
 

@@ -6,7 +6,6 @@ ghost use Rattle.std.specs.Prelude.{◌≤◌};
 use estimators::matrices;
 use protocol::words::{cells, least, number_at, part, size_at};
 use protocol::{given, names};
-use std::num::wrapping_add_usize;
 
 // The kinds of functions: a matrix of no, of one or of two slices; a number; a bool.
 const MADE: u8 = 0;
@@ -177,10 +176,10 @@ pub fn place_of(op: usize, v: &[f64], given: &[u8], at: usize) -> usize
     let i = size_at(v, 2);
     let j = size_at(v, 3);
     let s = shape_of(op, r, c, i);
-    let b = wrapping_add_usize(s.1, s.2);
-    let end = wrapping_add_usize(b, s.3);
+    let b = s.1.wrapping_add(s.2);
+    let end = b.wrapping_add(s.3);
     let x = number_at(v, end);
-    if wrapping_add_usize(end, s.4) == v.len() {
+    if end.wrapping_add(s.4) == v.len() {
         let k = Call { op, r, c, i, j, x };
         answer(s.0, k, part(v, s.1, b), part(v, b, end), s.5, given, at)
     } else {
