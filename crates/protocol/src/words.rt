@@ -3,8 +3,6 @@ ghost use Rattle.std.specs.Prelude.{◌≡◌, ◌+◌, ◌≤◌, max, length, 
 ghost use Rattle.std.specs.Float.{binary64, nan};
 ghost use Rattle.std.specs.Float.Ieee.{to_bits};
 
-use memchr::memchr;
-
 // The kinds of words: no word of the protocol, 16 hexadecimal digits or `nan`, a decimal whole number, a text.
 const NONE: u8 = 0;
 
@@ -56,7 +54,7 @@ pub fn piece(text: &[u8], at: usize, stop: u8) -> &[u8]
 {
     if at <= text.len() {
         let rest = &text[at..];
-        match memchr(stop, rest) {
+        match rest.iter().position(|b| *b == stop) {
             Some(length) => &rest[..length],
             None => rest,
         }
