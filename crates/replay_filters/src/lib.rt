@@ -1,6 +1,8 @@
 // The operations on a filter replayed through their C functions. The words of a filter, a b h q r x p, lie as its slice does (an
 // information filter's omega and xi the other way round); steps follow them. The answer is sought in the answer given from the
 // place `at` on, and the place behind it handed back.
+#![tactic(auto)]
+
 ghost use Rattle.std.specs.Prelude.{◌≤◌};
 
 use protocol::filter::{N, Sizes, parts_of, step_cells};

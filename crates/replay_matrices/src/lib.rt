@@ -1,6 +1,8 @@
 // The operations of src/core/matrix.rs replayed through their C functions. The words of a call are its sizes, the cells of a and of b,
 // and a number, as far as it takes them. Its sizes r and c are the rows and columns of a, where a vector has one column; i and j are
 // the next two. The answer is sought in the answer given from the place `at` on, and the place behind it handed back.
+#![tactic(auto)]
+
 ghost use Rattle.std.specs.Prelude.{◌≤◌};
 
 use estimators::matrices;

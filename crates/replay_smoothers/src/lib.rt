@@ -1,5 +1,7 @@
 // The operations of src/estimator/rts_smoother.rs replayed through their C functions. A slot is two pairs of a state and a covariance:
 // filtered and predicted. The answer is sought in the answer given from the place `at` on, and the place behind it handed back.
+#![tactic(auto)]
+
 ghost use Rattle.std.specs.Prelude.{◌≤◌};
 
 use estimators::smoothers;

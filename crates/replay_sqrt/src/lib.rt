@@ -1,5 +1,7 @@
 // The operations of src/estimator/sqrt_kalman.rs replayed through their C functions. The words of a filter, a b h q rdiag x s, lie as
 // its slice does; steps follow them. The answer is sought in the answer given from the place `at` on, and the place behind it handed back.
+#![tactic(auto)]
+
 ghost use Rattle.std.specs.Prelude.{◌≤◌};
 
 use estimators::sqrt_kalman;
