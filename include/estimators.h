@@ -1,7 +1,7 @@
 /*
  * The verified estimators for C: matrices, the linear, information and square-root Kalman filters, model mixing, the
  * Rauch-Tung-Striebel smoother and the depot sheet.
- * Link libestimators.a, which `rt staticlib estimators` proves and writes. It calls memcpy and memset, which every C
+ * Link libestimators.a, which `tools/archive estimators` proves and writes. It calls memcpy and memset, which every C
  * library has, and nothing else: firmware without a C library has to supply these two.
  *
  * Numbers are IEEE 754 doubles and may hold any bits. A matrix is its cells by rows, used sizes only: R x C is

@@ -43,10 +43,19 @@ need_rt() {
   command -v rt > /dev/null || fail "rt, the command of the Rattle kit, is not on the PATH (README.md, 'The kit')"
 }
 
+# The static library whose archive is libNAME.a: NAME_c, over the library NAME, or NAME itself.
+static_crate() {
+  local crate
+  for crate in "$1_c" "$1"; do
+    if grep -qE "^$crate +staticlib\\b" "$root/crates.txt"; then echo "$crate"; return; fi
+  done
+  fail "crates.txt has no static library $1_c or $1"
+}
+
 # A crate and the crates that it rests on, one to a line.
 crates_of() {
   awk -v wanted="$*" '
-    { sub(/#.*/, ""); i = index($0, ":"); if (i) { name = substr($0, 1, i - 1); gsub(/ /, "", name); rests[name] = substr($0, i + 1) } }
+    { sub(/#.*/, ""); i = index($0, ":"); if (i) { name = substr($0, 1, i - 1); sub(/^ +/, "", name); sub(/ .*/, "", name); rests[name] = substr($0, i + 1) } }
     function visit(name,    k, count, names) {
       if (!(name in rests) || name in seen) return
       seen[name] = 1

@@ -1,5 +1,7 @@
 // The library's functions by value behind C names, for compare/bench: whole arrays behind pointers, no slices to read
 // or to test. What is timed is the function that Rattle code calls.
+#![tactic(auto)]
+
 ghost use Rattle.std.specs.Prelude.{◌≡◌};
 ghost use Rattle.answer.specs.Answer.{where_sized, if_sized};
 ghost use Rattle.algebra.specs.Matrix.{mul};

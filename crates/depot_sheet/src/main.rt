@@ -1,22 +1,23 @@
 // The depot sheet: a sheet on standard input, its report on standard output. What stands after the longest sheet and one byte more
 // plays no part in the report, so the program answers for input of any length.
-use libc::{STDIN_FILENO, STDOUT_FILENO};
+#![tactic(auto)]
+
+use input::read_full;
 use sheet::{Reported, report};
+use std::io;
 
 // The report of a sheet, printed.
-fn print_report(input: &[u8]) {
+fn print_report(rt: &impl Print, input: &[u8]) -> io::Result<()> {
     let mut output = [0u8; 1600];
     let told = report(input, &mut output[..]);
     match told {
-        Reported::Refused(_) => {}
-        Reported::Written(count) => {
-            io::write_all(STDOUT_FILENO, &output[..count]);
-        }
+        Reported::Refused(_) => Ok(()),
+        Reported::Written(count) => rt.write_all(&output[..count]),
     }
 }
 
-fn main() {
+fn main(rt: HostRuntime) -> io::Result<()> {
     let mut input = [0u8; 1418];
-    let count = io::read_full(STDIN_FILENO, &mut input);
-    print_report(&input[..count]);
+    let count = read_full(&mut rt.stdin(), &mut input)?;
+    print_report(&rt, &input[..count])
 }

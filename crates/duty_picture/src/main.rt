@@ -1,23 +1,24 @@
 // The picture of a duty: a depot sheet on standard input, an SVG file on standard output, or the sheet's refusal line. As in
 // depot_sheet, 1,418 bytes decide.
-use libc::{STDIN_FILENO, STDOUT_FILENO};
+#![tactic(auto)]
+
+use input::read_full;
 use picture::picture;
 use sheet::Reported;
+use std::io;
 
 // The picture of a sheet, printed.
-fn print_picture(input: &[u8]) {
+fn print_picture(rt: &impl Print, input: &[u8]) -> io::Result<()> {
     let mut output = [0u8; 32768];
     let told = picture(input, &mut output[..]);
     match told {
-        Reported::Refused(_) => {}
-        Reported::Written(count) => {
-            io::write_all(STDOUT_FILENO, &output[..count]);
-        }
+        Reported::Refused(_) => Ok(()),
+        Reported::Written(count) => rt.write_all(&output[..count]),
     }
 }
 
-fn main() {
+fn main(rt: HostRuntime) -> io::Result<()> {
     let mut input = [0u8; 1418];
-    let count = io::read_full(STDIN_FILENO, &mut input);
-    print_picture(&input[..count]);
+    let count = read_full(&mut rt.stdin(), &mut input)?;
+    print_picture(&rt, &input[..count])
 }

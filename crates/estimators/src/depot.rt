@@ -5,8 +5,7 @@ ghost use Rattle.sheets.specs.Report.{report};
 ghost use Rattle.sheet.specs.Call.{report_in};
 
 // The report of a sheet at the output's start, and how many bytes it has. Refused with 1: the output is shorter than 1,600 bytes.
-#[unsafe(no_mangle)]
-pub extern "C" fn estimators_sheet_report(sheet: &[u8], out: &mut [u8], written: &mut usize) -> u8
+pub fn estimators_sheet_report(sheet: &[u8], out: &mut [u8], written: &mut usize) -> u8
     ensures { (result, (written.new, out.new))
         ≡ given (written.old, out.old) (report_in (report sheet.now) out.old) }
 {

@@ -5,14 +5,7 @@ ghost use Rattle.answer.specs.Told.{given};
 ghost use Rattle.c_copies.specs.Filter.{predict_in, update_in, new_in, reset_in, state_in, covariance_in, tracker_in};
 
 // One step on, with the input u of i numbers.
-#[unsafe(no_mangle)]
-pub extern "C" fn estimators_kalman_predict(
-    n: usize,
-    m: usize,
-    i: usize,
-    filter: &mut [f64],
-    u: &[f64],
-) -> u8
+pub fn estimators_kalman_predict(n: usize, m: usize, i: usize, filter: &mut [f64], u: &[f64]) -> u8
     ensures { (result, filter.new) ≡ predict_in n m i filter.old u.now }
 {
     c_filters::kalman_predict(n, m, i, filter, u)
@@ -20,8 +13,7 @@ pub extern "C" fn estimators_kalman_predict(
 
 // Corrected by the measurement z of m numbers; the innovation is z less H times the state before. Refused with 3: inversion
 // rejects the innovation covariance.
-#[unsafe(no_mangle)]
-pub extern "C" fn estimators_kalman_update(
+pub fn estimators_kalman_update(
     n: usize,
     m: usize,
     i: usize,
@@ -35,8 +27,7 @@ pub extern "C" fn estimators_kalman_update(
 }
 
 // The filter of the parts a, b, h, q, r, x0 and p0, each by rows.
-#[unsafe(no_mangle)]
-pub extern "C" fn estimators_kalman_new(
+pub fn estimators_kalman_new(
     n: usize,
     m: usize,
     i: usize,
@@ -56,8 +47,7 @@ pub extern "C" fn estimators_kalman_new(
 }
 
 // Another state x0 and covariance p0; the model stays.
-#[unsafe(no_mangle)]
-pub extern "C" fn estimators_kalman_reset(
+pub fn estimators_kalman_reset(
     n: usize,
     m: usize,
     i: usize,
@@ -71,22 +61,14 @@ pub extern "C" fn estimators_kalman_reset(
 }
 
 // The state, n numbers.
-#[unsafe(no_mangle)]
-pub extern "C" fn estimators_kalman_state(
-    n: usize,
-    m: usize,
-    i: usize,
-    filter: &[f64],
-    out: &mut [f64],
-) -> u8
+pub fn estimators_kalman_state(n: usize, m: usize, i: usize, filter: &[f64], out: &mut [f64]) -> u8
     ensures { (result, out.new) ≡ given out.old (state_in n m i filter.now (length out.old)) }
 {
     c_copies::kalman_state(n, m, i, filter, out)
 }
 
 // The covariance, n rows of n numbers.
-#[unsafe(no_mangle)]
-pub extern "C" fn estimators_kalman_covariance(
+pub fn estimators_kalman_covariance(
     n: usize,
     m: usize,
     i: usize,
@@ -99,8 +81,7 @@ pub extern "C" fn estimators_kalman_covariance(
 }
 
 // A filter of 19 numbers that tracks position and speed, with the step dt in seconds.
-#[unsafe(no_mangle)]
-pub extern "C" fn estimators_kalman_position_velocity(
+pub fn estimators_kalman_position_velocity(
     dt: f64,
     process_noise: f64,
     measurement_noise: f64,

@@ -5,8 +5,7 @@ ghost use Rattle.answer.specs.Told.{given};
 ghost use Rattle.c_imm.specs.Bank.{mix_in, probabilities_in, fused_in, probability_in, new_in};
 
 // The bank of the models, one after another, the transition, c and r, each by rows; each probability is 1 / k.
-#[unsafe(no_mangle)]
-pub extern "C" fn estimators_imm_new(
+pub fn estimators_imm_new(
     n: usize,
     m: usize,
     k: usize,
@@ -24,29 +23,21 @@ pub extern "C" fn estimators_imm_new(
 }
 
 // Every model's state and covariance mixed from those of all; mu becomes the predicted probabilities.
-#[unsafe(no_mangle)]
-pub extern "C" fn estimators_imm_mix_estimates(n: usize, m: usize, k: usize, bank: &mut [f64]) -> u8
+pub fn estimators_imm_mix_estimates(n: usize, m: usize, k: usize, bank: &mut [f64]) -> u8
     ensures { (result, bank.new) ≡ mix_in n m k bank.old }
 {
     c_imm::imm_mix_estimates(n, m, k, bank)
 }
 
 // mu becomes each probability times its likelihood, as a part of their sum; 1 / k each where the sum is below EPSILON.
-#[unsafe(no_mangle)]
-pub extern "C" fn estimators_imm_update_probabilities(
-    n: usize,
-    m: usize,
-    k: usize,
-    bank: &mut [f64],
-) -> u8
+pub fn estimators_imm_update_probabilities(n: usize, m: usize, k: usize, bank: &mut [f64]) -> u8
     ensures { (result, bank.new) ≡ probabilities_in n m k bank.old }
 {
     c_bank::imm_update_probabilities(n, m, k, bank)
 }
 
 // The states by their probabilities, n numbers.
-#[unsafe(no_mangle)]
-pub extern "C" fn estimators_imm_fused_estimate(
+pub fn estimators_imm_fused_estimate(
     n: usize,
     m: usize,
     k: usize,
@@ -59,8 +50,7 @@ pub extern "C" fn estimators_imm_fused_estimate(
 }
 
 // The probability of a model, from 0. Refused with 1 too: there is no such model.
-#[unsafe(no_mangle)]
-pub extern "C" fn estimators_imm_model_probability(
+pub fn estimators_imm_model_probability(
     n: usize,
     m: usize,
     k: usize,

@@ -8,8 +8,7 @@ ghost use Rattle.c_fusion.specs.Fusion.{fuse_in, fuse_all_in};
 
 // One step on, with the input u of i numbers. Refused with 3, and nothing changes: inversion rejects omega, or the predicted
 // covariance.
-#[unsafe(no_mangle)]
-pub extern "C" fn estimators_information_predict(
+pub fn estimators_information_predict(
     n: usize,
     m: usize,
     i: usize,
@@ -23,8 +22,7 @@ pub extern "C" fn estimators_information_predict(
 
 // Updated by the measurement z of m numbers; the innovation is z less H times the state after. Refused with 3: inversion rejects
 // r, and nothing is written; or the new omega, and the filter keeps the addition.
-#[unsafe(no_mangle)]
-pub extern "C" fn estimators_information_update(
+pub fn estimators_information_update(
     n: usize,
     m: usize,
     i: usize,
@@ -38,8 +36,7 @@ pub extern "C" fn estimators_information_update(
 }
 
 // One sensor's addition: h (m by n), its inverted noise r_inv (m by m), and what it measured, z (m).
-#[unsafe(no_mangle)]
-pub extern "C" fn estimators_information_fuse_sensor(
+pub fn estimators_information_fuse_sensor(
     n: usize,
     m: usize,
     i: usize,
@@ -55,8 +52,7 @@ pub extern "C" fn estimators_information_fuse_sensor(
 
 // The additions of count sensors, 0 or more, one after another in the slice: of each its h (m by n), its inverted noise (m by m),
 // and what it measured (m).
-#[unsafe(no_mangle)]
-pub extern "C" fn estimators_information_fuse_sensors(
+pub fn estimators_information_fuse_sensors(
     n: usize,
     m: usize,
     i: usize,
@@ -70,8 +66,7 @@ pub extern "C" fn estimators_information_fuse_sensors(
 }
 
 // Another state x0 and covariance p0; the model stays. Refused with 3: inversion rejects p0.
-#[unsafe(no_mangle)]
-pub extern "C" fn estimators_information_reset(
+pub fn estimators_information_reset(
     n: usize,
     m: usize,
     i: usize,
@@ -85,8 +80,7 @@ pub extern "C" fn estimators_information_reset(
 }
 
 // Of the parts a, b, h, q and r, and of omega0 and xi0, each by rows.
-#[unsafe(no_mangle)]
-pub extern "C" fn estimators_information_from_information(
+pub fn estimators_information_from_information(
     n: usize,
     m: usize,
     i: usize,
@@ -108,8 +102,7 @@ pub extern "C" fn estimators_information_from_information(
 
 // Of the parts a, b, h, q and r, and of an estimate: omega is p0 inverted, and xi is omega times x0. Refused with 3: inversion
 // rejects p0.
-#[unsafe(no_mangle)]
-pub extern "C" fn estimators_information_new(
+pub fn estimators_information_new(
     n: usize,
     m: usize,
     i: usize,
@@ -130,8 +123,7 @@ pub extern "C" fn estimators_information_new(
 }
 
 // The state, n numbers: omega inverted, times xi. Refused with 3: inversion rejects omega.
-#[unsafe(no_mangle)]
-pub extern "C" fn estimators_information_state(
+pub fn estimators_information_state(
     n: usize,
     m: usize,
     i: usize,
@@ -144,8 +136,7 @@ pub extern "C" fn estimators_information_state(
 }
 
 // The covariance, n rows of n numbers: omega inverted. Refused with 3: inversion rejects omega.
-#[unsafe(no_mangle)]
-pub extern "C" fn estimators_information_covariance(
+pub fn estimators_information_covariance(
     n: usize,
     m: usize,
     i: usize,
@@ -158,8 +149,7 @@ pub extern "C" fn estimators_information_covariance(
 }
 
 // Copies of omega, n rows of n numbers, and of xi, n numbers.
-#[unsafe(no_mangle)]
-pub extern "C" fn estimators_information_matrix(
+pub fn estimators_information_matrix(
     n: usize,
     m: usize,
     i: usize,
@@ -171,8 +161,7 @@ pub extern "C" fn estimators_information_matrix(
     c_information::information_matrix(n, m, i, filter, out)
 }
 
-#[unsafe(no_mangle)]
-pub extern "C" fn estimators_information_vector(
+pub fn estimators_information_vector(
     n: usize,
     m: usize,
     i: usize,

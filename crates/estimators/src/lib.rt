@@ -1,6 +1,8 @@
-// The estimators for C: each function takes numbers and slices, writes into lent places, and returns the refusal's number, 0 for
-// an answer. A slice is a pointer and a length in C; include/estimators.h says what each holds. The functions forward to crates
-// of calls on slices, whose contracts they have.
+// The estimators on slices, by the names that C has for them: each function takes numbers and slices, writes into lent places, and
+// returns the refusal's number, 0 for an answer. The functions forward to crates of calls on slices, whose contracts they have.
+// The crate estimators_c exports them to C.
+#![tactic(auto)]
+
 pub mod depot;
 pub mod filters;
 pub mod imm;

@@ -7,73 +7,63 @@ ghost use Rattle.c_slices.specs.Calls.{constants_in};
 
 use scalar::{ControlScalar, PidScalar};
 
-#[unsafe(no_mangle)]
-pub extern "C" fn estimators_scalar_sqrt(x: f64) -> f64
+pub fn estimators_scalar_sqrt(x: f64) -> f64
     ensures { result ≡ root_of x }
 {
     ControlScalar::sqrt(x)
 }
 
-#[unsafe(no_mangle)]
-pub extern "C" fn estimators_scalar_abs(x: f64) -> f64
+pub fn estimators_scalar_abs(x: f64) -> f64
     ensures { result ≡ abs x }
 {
     ControlScalar::abs(x)
 }
 
-#[unsafe(no_mangle)]
-pub extern "C" fn estimators_scalar_clamp_val(x: f64, min: f64, max: f64) -> f64
+pub fn estimators_scalar_clamp_val(x: f64, min: f64, max: f64) -> f64
     ensures { result ≡ clamp x min max }
 {
     ControlScalar::clamp_val(x, min, max)
 }
 
-#[unsafe(no_mangle)]
-pub extern "C" fn estimators_scalar_saturate(x: f64, limit: f64) -> f64
+pub fn estimators_scalar_saturate(x: f64, limit: f64) -> f64
     ensures { result ≡ saturated x limit }
 {
     ControlScalar::saturate(x, limit)
 }
 
-#[unsafe(no_mangle)]
-pub extern "C" fn estimators_scalar_from_f64(v: f64) -> f64
+pub fn estimators_scalar_from_f64(v: f64) -> f64
     ensures { result ≡ v }
 {
     ControlScalar::from_f64(v)
 }
 
-#[unsafe(no_mangle)]
-pub extern "C" fn estimators_scalar_to_f64(x: f64) -> f64
+pub fn estimators_scalar_to_f64(x: f64) -> f64
     ensures { result ≡ x }
 {
     ControlScalar::to_f64(x)
 }
 
 // Not forwarded: a signed number handed on would need a proof about its bits.
-#[unsafe(no_mangle)]
-pub extern "C" fn estimators_scalar_from_int(v: i32) -> f64
+pub fn estimators_scalar_from_int(v: i32) -> f64
     ensures { result ≡ of_whole v }
 {
     v as f64
 }
 
-#[unsafe(no_mangle)]
-pub extern "C" fn estimators_scalar_pid_abs(x: f64) -> f64
+pub fn estimators_scalar_pid_abs(x: f64) -> f64
     ensures { result ≡ abs x }
 {
     PidScalar::abs(x)
 }
 
-#[unsafe(no_mangle)]
-pub extern "C" fn estimators_scalar_clamp_pid(x: f64, min: f64, max: f64) -> f64
+pub fn estimators_scalar_clamp_pid(x: f64, min: f64, max: f64) -> f64
     ensures { result ≡ clamp x min max }
 {
     PidScalar::clamp_pid(x, min, max)
 }
 
 // ZERO, ONE, TWO, HALF, PI and EPSILON. Refused with 1: a slice of another length than 6.
-#[unsafe(no_mangle)]
-pub extern "C" fn estimators_scalar_constants(out: &mut [f64]) -> u8
+pub fn estimators_scalar_constants(out: &mut [f64]) -> u8
     ensures { (result, out.new) ≡ given out.old (constants_in (length out.old)) }
 {
     c_matrix::numbers::scalar_constants(out)

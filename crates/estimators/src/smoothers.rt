@@ -4,8 +4,7 @@ ghost use Rattle.answer.specs.Told.{given};
 ghost use Rattle.c_smoothers.specs.Smoother.{store_in, slot_in, smooth_in};
 
 // One slot more, after those stored, and the count one more. Refused with 5: the count is the room.
-#[unsafe(no_mangle)]
-pub extern "C" fn estimators_rts_smoother_store_forward(
+pub fn estimators_rts_smoother_store_forward(
     n: usize,
     room: usize,
     count: &mut usize,
@@ -20,8 +19,7 @@ pub extern "C" fn estimators_rts_smoother_store_forward(
 }
 
 // A copy of slot k. Refused with 6: k is not below the count.
-#[unsafe(no_mangle)]
-pub extern "C" fn estimators_rts_smoother_get_state(
+pub fn estimators_rts_smoother_get_state(
     n: usize,
     room: usize,
     count: usize,
@@ -36,8 +34,7 @@ pub extern "C" fn estimators_rts_smoother_get_state(
 
 // The smoothed pairs of the stored slots into output, and +0 past them. Refused with 2: no slot; with 3: inversion rejects the
 // predicted covariance of a slot before the last.
-#[unsafe(no_mangle)]
-pub extern "C" fn estimators_rts_smoother_smooth(
+pub fn estimators_rts_smoother_smooth(
     n: usize,
     room: usize,
     count: usize,

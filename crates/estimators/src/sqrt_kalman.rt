@@ -7,8 +7,7 @@ ghost use Rattle.c_sqrt_steps.specs.Step.{predict_in, update_in};
 
 // One step on, with the input u of i numbers. Refused with 4: the new covariance has no factor; the state is then the new one, and
 // the factor the old.
-#[unsafe(no_mangle)]
-pub extern "C" fn estimators_sqrt_kalman_predict(
+pub fn estimators_sqrt_kalman_predict(
     n: usize,
     m: usize,
     i: usize,
@@ -23,8 +22,7 @@ pub extern "C" fn estimators_sqrt_kalman_predict(
 // Corrected by the measurement z of m numbers, one component after another; the innovations in order. Refused with 3: a component's
 // variance; the components before it are taken in. With 4: its downdate; the state is then updated by it, and the columns
 // before the failing one are turned.
-#[unsafe(no_mangle)]
-pub extern "C" fn estimators_sqrt_kalman_update(
+pub fn estimators_sqrt_kalman_update(
     n: usize,
     m: usize,
     i: usize,
@@ -38,8 +36,7 @@ pub extern "C" fn estimators_sqrt_kalman_update(
 }
 
 // Another state x0, and the factor of the covariance p0; the model stays. Refused with 4: p0 has no factor, and nothing changes.
-#[unsafe(no_mangle)]
-pub extern "C" fn estimators_sqrt_kalman_reset(
+pub fn estimators_sqrt_kalman_reset(
     n: usize,
     m: usize,
     i: usize,
@@ -53,8 +50,7 @@ pub extern "C" fn estimators_sqrt_kalman_reset(
 }
 
 // The filter of the parts a, b, h, q, r_diag, x0 and the factor s0.
-#[unsafe(no_mangle)]
-pub extern "C" fn estimators_sqrt_kalman_from_cholesky(
+pub fn estimators_sqrt_kalman_from_cholesky(
     n: usize,
     m: usize,
     i: usize,
@@ -75,8 +71,7 @@ pub extern "C" fn estimators_sqrt_kalman_from_cholesky(
 }
 
 // The same, with the factor of the covariance p0. Refused with 4: p0 has none.
-#[unsafe(no_mangle)]
-pub extern "C" fn estimators_sqrt_kalman_new(
+pub fn estimators_sqrt_kalman_new(
     n: usize,
     m: usize,
     i: usize,
@@ -97,8 +92,7 @@ pub extern "C" fn estimators_sqrt_kalman_new(
 }
 
 // The state, n numbers.
-#[unsafe(no_mangle)]
-pub extern "C" fn estimators_sqrt_kalman_state(
+pub fn estimators_sqrt_kalman_state(
     n: usize,
     m: usize,
     i: usize,
@@ -111,8 +105,7 @@ pub extern "C" fn estimators_sqrt_kalman_state(
 }
 
 // The factor, n rows of n numbers.
-#[unsafe(no_mangle)]
-pub extern "C" fn estimators_sqrt_kalman_cholesky_factor(
+pub fn estimators_sqrt_kalman_cholesky_factor(
     n: usize,
     m: usize,
     i: usize,
@@ -125,8 +118,7 @@ pub extern "C" fn estimators_sqrt_kalman_cholesky_factor(
 }
 
 // The covariance, n rows of n numbers: the factor times itself transposed.
-#[unsafe(no_mangle)]
-pub extern "C" fn estimators_sqrt_kalman_covariance(
+pub fn estimators_sqrt_kalman_covariance(
     n: usize,
     m: usize,
     i: usize,

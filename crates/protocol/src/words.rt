@@ -3,8 +3,6 @@ ghost use Rattle.std.specs.Prelude.{◌≡◌, ◌+◌, ◌≤◌, max, length, 
 ghost use Rattle.std.specs.Float.{binary64, nan};
 ghost use Rattle.std.specs.Float.Ieee.{to_bits};
 
-use bytes::scan::find;
-
 // The kinds of words: no word of the protocol, 16 hexadecimal digits or `nan`, a decimal whole number, a text.
 const NONE: u8 = 0;
 
@@ -55,8 +53,11 @@ pub fn piece(text: &[u8], at: usize, stop: u8) -> &[u8]
     ensures { at + length result.now ≤ max at (length text.now) }
 {
     if at <= text.len() {
-        let end = find(text, at, text.len(), stop);
-        &text[at..end]
+        let rest = &text[at..];
+        match rest.iter().position(|b| *b == stop) {
+            Some(length) => &rest[..length],
+            None => rest,
+        }
     } else {
         &text[0..0]
     }

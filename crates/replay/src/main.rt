@@ -1,8 +1,11 @@
 // Replays a list of calls through the C functions of the library and compares each answer with the one in the list: pairs of
 // lines on standard input, a call and the Rust's answer, in the line protocol of the comparison (compare/PROTOCOL.md). Printed
 // are the pairs that disagree, and then how many calls of each operation agreed.
-use libc::{STDIN_FILENO, STDOUT_FILENO};
+#![tactic(auto)]
+
+use input::read_full;
 use protocol::{given, names, words};
+use std::io;
 
 mod scalars;
 mod tally;
@@ -44,27 +47,34 @@ fn agrees(op: usize, call: &[u8], given: &[u8]) -> bool {
 }
 
 // A pair of lines that disagree.
-fn print_pair(line: u64, call: &[u8], given: &[u8]) {
-    io::write_all(STDOUT_FILENO, b"line ");
-    io::print_decimal(STDOUT_FILENO, line);
-    io::write_all(STDOUT_FILENO, b" differs: ");
-    io::write_all(STDOUT_FILENO, call);
-    io::write_all(STDOUT_FILENO, b"\n  given ");
-    io::write_all(STDOUT_FILENO, given);
-    io::write_all(STDOUT_FILENO, b"\n");
+fn print_pair(rt: &impl Print, line: u64, call: &[u8], given: &[u8]) -> io::Result<()> {
+    print!(rt; "line {line} differs: ")?;
+    rt.write_all(call)?;
+    print!(rt; "\n  given ")?;
+    rt.write_all(given)?;
+    println!(rt; "")
 }
 
 // A call counted, and printed where it disagrees.
-fn count(tally: &mut [u64], op: usize, line: u64, call: &[u8], given: &[u8]) {
+fn count(
+    rt: &impl Print,
+    tally: &mut [u64],
+    op: usize,
+    line: u64,
+    call: &[u8],
+    given: &[u8],
+) -> io::Result<()> {
     let is_good = agrees(op, call, given);
     tally::add(tally, op, is_good);
-    if !is_good {
-        print_pair(line, call, given);
+    if is_good {
+        Ok(())
+    } else {
+        print_pair(rt, line, call, given)
     }
 }
 
 // Pair after pair, to the end of the list.
-fn replay(list: &[u8], names: &[u8], tally: &mut [u64]) {
+fn replay(rt: &impl Print, list: &[u8], names: &[u8], tally: &mut [u64]) -> io::Result<()> {
     let mut at = 0;
     let mut line = 1;
     while at < list.len() {
@@ -72,14 +82,15 @@ fn replay(list: &[u8], names: &[u8], tally: &mut [u64]) {
         let next = at + call.len() + 1;
         let given = words::piece(list, next, b'\n');
         let op = tally::index_of(names, words::piece(call, 0, b' '));
-        count(tally, op, line, call, given);
+        count(rt, tally, op, line, call, given)?;
         at = next + given.len() + 1;
-        line = std::num::wrapping_add_u64(line, 2);
+        line = line.wrapping_add(2);
     }
+    Ok(())
 }
 
 // The names stand at the places that protocol::names gives them.
-fn replay_input(list: &mut [u8]) {
+fn replay_input(rt: HostRuntime, list: &mut [u8]) -> io::Result<()> {
     let mut tally = [0u64; 80];
     let names =
         b"consts sqrt abs clamp_val saturate from_f64 to_f64 from_int pid_abs clamp_pid zeros default filled \
@@ -88,18 +99,18 @@ fn replay_input(list: &mut [u8]) {
         kf_seq if_new if_from_information if_predict if_update if_state if_cov if_reset if_fuse if_seq \
         sq_new sq_from_cholesky sq_predict sq_update sq_cov sq_reset sq_seq imm_new imm_mix imm_probs \
         imm_fused imm_prob rts_store rts_get rts_smooth rts_stale others";
-    let length = io::read_full(STDIN_FILENO, list);
-    replay(&list[0..length], names, &mut tally);
-    tally::report(names, &tally);
+    let length = read_full(&mut rt.stdin(), list)?;
+    replay(&rt, &list[0..length], names, &mut tally)?;
+    tally::report(&rt, names, &tally)
 }
 
 // Lends the array as a slice; behind a reference its length asks no proof.
-fn replay_in(list: &mut [u8; 4194304]) {
-    replay_input(list);
+fn replay_in(rt: HostRuntime, list: &mut [u8; 4194304]) -> io::Result<()> {
+    replay_input(rt, list)
 }
 
 // A longer list is cut, which the counts show.
-fn main() {
+fn main(rt: HostRuntime) -> io::Result<()> {
     let mut list = [0u8; 4194304];
-    replay_in(&mut list);
+    replay_in(rt, &mut list)
 }

@@ -1,9 +1,8 @@
 // How many calls of each operation there were, and how many of them agreed, as the upper and the lower half of one number, in
 // the order of a list of names that spaces separate.
-use check::same;
-use libc::STDOUT_FILENO;
 use protocol::names::OTHERS;
 use protocol::words::piece;
+use std::io;
 
 const CALL: u64 = 0x1_0000_0000;
 
@@ -13,7 +12,7 @@ pub fn index_of(names: &[u8], name: &[u8]) -> usize {
     let mut k = 0;
     while at < names.len() {
         let known = piece(names, at, b' ');
-        if same(known, name) {
+        if known == name {
             return k;
         }
         k += 1;
@@ -25,30 +24,29 @@ pub fn index_of(names: &[u8], name: &[u8]) -> usize {
 // One more call of operation k.
 pub fn add(tally: &mut [u64], k: usize, is_good: bool) {
     if k < tally.len() {
-        let sum = std::num::wrapping_add_u64(tally[k], CALL);
-        tally[k] = std::num::wrapping_add_u64(sum, is_good as u64);
+        let sum = tally[k].wrapping_add(CALL);
+        tally[k] = sum.wrapping_add(is_good as u64);
     }
 }
 
-fn print_row(name: &[u8], calls: u64) {
-    io::write_all(STDOUT_FILENO, name);
-    io::write_all(STDOUT_FILENO, b" ");
-    io::print_decimal(STDOUT_FILENO, calls % CALL);
-    io::write_all(STDOUT_FILENO, b" of ");
-    io::print_decimal(STDOUT_FILENO, calls / CALL);
-    io::write_all(STDOUT_FILENO, b" agree\n");
+fn print_row(rt: &impl Print, name: &[u8], calls: u64) -> io::Result<()> {
+    let agreed = calls % CALL;
+    let all = calls / CALL;
+    rt.write_all(name)?;
+    println!(rt; " {agreed} of {all} agree")
 }
 
 // A row for each name.
-pub fn report(names: &[u8], tally: &[u64]) {
+pub fn report(rt: &impl Print, names: &[u8], tally: &[u64]) -> io::Result<()> {
     let mut at = 0;
     let mut k = 0;
     while at < names.len() {
         let name = piece(names, at, b' ');
         if k < tally.len() {
-            print_row(name, tally[k]);
+            print_row(rt, name, tally[k])?;
         }
         k += 1;
         at = at + name.len() + 1;
     }
+    Ok(())
 }

@@ -1,12 +1,13 @@
 // The operations on a filter replayed through their C functions. The words of a filter, a b h q r x p, lie as its slice does (an
 // information filter's omega and xi the other way round); steps follow them. The answer is sought in the answer given from the
 // place `at` on, and the place behind it handed back.
+#![tactic(auto)]
+
 ghost use Rattle.std.specs.Prelude.{◌≤◌};
 
 use protocol::filter::{N, Sizes, parts_of, step_cells};
 use protocol::words::{C, F, P, R, S, U, part, size_at, whole_at};
 use protocol::{given, names};
-use std::num::wrapping_add_usize;
 
 mod linear;
 
@@ -100,7 +101,7 @@ fn on_filter(op: usize, s: Sizes, filter: &mut [f64], v: &[f64], given: &[u8], a
     let end = 3 + filter.len();
     let begun = begin(op, s, part(v, 3, end), filter, at);
     let first = first_letter(op, whole_at(v, end));
-    let from = wrapping_add_usize(end, is_sequence(op) as usize);
+    let from = end.wrapping_add(is_sequence(op) as usize);
     steps(op, first, s, filter, v, from, given, begun)
 }
 

@@ -1,6 +1,8 @@
 // The operations of src/estimator/imm.rs replayed through their C functions. The words of a bank lie as its slice does; those of
 // imm_new lack the probabilities. The answer is sought in the answer given from the place `at` on, and the place behind it
 // handed back.
+#![tactic(auto)]
+
 ghost use Rattle.std.specs.Prelude.{◌≤◌};
 
 use estimators::imm;

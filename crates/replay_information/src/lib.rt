@@ -1,5 +1,7 @@
 // The calls of src/estimator/information_filter.rs through their C functions, for the operations of replay_filters. The answer is
 // sought in the answer given from the place `at` on, and the place behind it handed back.
+#![tactic(auto)]
+
 ghost use Rattle.std.specs.Prelude.{◌≤◌};
 
 use estimators::information;

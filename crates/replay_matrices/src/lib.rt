@@ -1,12 +1,13 @@
 // The operations of src/core/matrix.rs replayed through their C functions. The words of a call are its sizes, the cells of a and of b,
 // and a number, as far as it takes them. Its sizes r and c are the rows and columns of a, where a vector has one column; i and j are
 // the next two. The answer is sought in the answer given from the place `at` on, and the place behind it handed back.
+#![tactic(auto)]
+
 ghost use Rattle.std.specs.Prelude.{◌≤◌};
 
 use estimators::matrices;
 use protocol::words::{cells, least, number_at, part, size_at};
 use protocol::{given, names};
-use std::num::wrapping_add_usize;
 
 // The kinds of functions: a matrix of no, of one or of two slices; a number; a bool.
 const MADE: u8 = 0;
@@ -177,10 +178,10 @@ pub fn place_of(op: usize, v: &[f64], given: &[u8], at: usize) -> usize
     let i = size_at(v, 2);
     let j = size_at(v, 3);
     let s = shape_of(op, r, c, i);
-    let b = wrapping_add_usize(s.1, s.2);
-    let end = wrapping_add_usize(b, s.3);
+    let b = s.1.wrapping_add(s.2);
+    let end = b.wrapping_add(s.3);
     let x = number_at(v, end);
-    if wrapping_add_usize(end, s.4) == v.len() {
+    if end.wrapping_add(s.4) == v.len() {
         let k = Call { op, r, c, i, j, x };
         answer(s.0, k, part(v, s.1, b), part(v, b, end), s.5, given, at)
     } else {

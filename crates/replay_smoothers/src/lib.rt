@@ -1,11 +1,12 @@
 // The operations of src/estimator/rts_smoother.rs replayed through their C functions. A slot is two pairs of a state and a covariance:
 // filtered and predicted. The answer is sought in the answer given from the place `at` on, and the place behind it handed back.
+#![tactic(auto)]
+
 ghost use Rattle.std.specs.Prelude.{◌≤◌};
 
 use estimators::smoothers;
 use protocol::words::{cells, count_at, part, size_at};
 use protocol::{given, names};
-use std::num::wrapping_add_usize;
 
 // A smoother of n states with room for that many slots.
 #[derive(Clone, Copy)]
@@ -71,8 +72,8 @@ fn store(
     let mut place = at;
     let mut k = 0;
     while k < offered {
-        let middle = wrapping_add_usize(next, pair);
-        let end = wrapping_add_usize(middle, pair);
+        let middle = next.wrapping_add(pair);
+        let end = middle.wrapping_add(pair);
         let filtered = part(v, next, middle);
         let predicted = part(v, middle, end);
         let status = smoothers::estimators_rts_smoother_store_forward(
@@ -94,7 +95,7 @@ fn listed(n: usize, count: usize, slots: &[f64], given: &[u8], at: usize) -> usi
     let bar = given::text(given, at, given::BAR);
     let place = given::count(given, bar, count as u64);
     let next = given::count(given, place, (count == 0) as u64);
-    let end = pairs(n, wrapping_add_usize(count, count));
+    let end = pairs(n, count.wrapping_add(count));
     given::numbers(given, next, part(slots, 0, end))
 }
 
@@ -126,7 +127,7 @@ fn answer(
     ensures { at ≤ result }
 {
     let count = kept.count;
-    let end = wrapping_add_usize(head, cells(s.n, s.n));
+    let end = head.wrapping_add(cells(s.n, s.n));
     match op {
         names::RTS_STORE => listed(s.n, count, slots, given, kept.place),
         names::RTS_GET => {
@@ -185,7 +186,7 @@ pub fn place_of(op: usize, v: &[f64], given: &[u8], at: usize) -> usize
     let n = size_at(v, 0);
     let room = size_at(v, 1);
     let d = duty_of(op, n, room, count_at(v, 2), count_at(v, 3));
-    let length = pairs(n, wrapping_add_usize(room, room));
+    let length = pairs(n, room.wrapping_add(room));
     let answered = pairs(n, d.4);
     on_slots(
         op,

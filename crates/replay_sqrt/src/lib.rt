@@ -1,11 +1,12 @@
 // The operations of src/estimator/sqrt_kalman.rs replayed through their C functions. The words of a filter, a b h q rdiag x s, lie as
 // its slice does; steps follow them. The answer is sought in the answer given from the place `at` on, and the place behind it handed back.
+#![tactic(auto)]
+
 ghost use Rattle.std.specs.Prelude.{◌≤◌};
 
 use estimators::sqrt_kalman;
 use protocol::words::{C, P, R, U, cells, part, size_at, whole_at};
 use protocol::{given, names};
-use std::num::wrapping_add_usize;
 
 // The letter of no step.
 const N: u64 = 78;
@@ -222,7 +223,7 @@ fn on_filter(op: usize, s: Sizes, filter: &mut [f64], v: &[f64], given: &[u8], a
         return given::told(given, at, status, part(v, 0, 0));
     }
     let first = first_letter(op, whole_at(v, end));
-    let from = wrapping_add_usize(end, (op == names::SQ_SEQ) as usize);
+    let from = end.wrapping_add((op == names::SQ_SEQ) as usize);
     steps(first, s, filter, v, from, given, at)
 }
 
