@@ -1,5 +1,7 @@
 // From settings and readings to filtered and smoothed positions: the middle of the depot sheet, by the numbers of one road.
 // A slot is twelve numbers, as rts_pass reads it: the state and its covariance by rows, then the predicted pair.
+#![tactic(auto)]
+
 ghost use Rattle.std.specs.Prelude.{◌≡◌, ◌*◌, ◌≤◌, length};
 ghost use Rattle.road.specs.Road.{matrix_of, estimate_of};
 ghost use Rattle.duty.specs.Buffer.{slots_of};

@@ -4,13 +4,12 @@ use native.Mathlib.Omega.{arith}
 use lib.ListN.{length-set}
 use Rattle.layout.proofs.Places.{set-placed, placed-next}
 use Rattle.duty.specs.Buffer.{pair_numbers, slot_numbers}
-use Rattle.tracker.proofs.slots.put_slot.Statement.{statement}
-use Rattle.tracker.proofs.slots.put_slot.Tie as tie
+use Rattle.tracker.proofs.slots.put_slot.Goals as goal
 
-returns : tie.Need-returns
+pub returns : goal.returns
 unfolding pair_numbers slot_numbers
 returns c =
-    let a = c.before.before.args in
+    let a = c.args in
     let o = a.slots.now in
     let k = a.k in
     let x = a.e.x0 in
@@ -31,19 +30,38 @@ returns c =
     (placed-next k (x ∷ y ∷ []) p.a o (omega arith)
     (placed-next k (x ∷ []) y o (omega arith) (set-placed k x o (omega arith))))))))))))
 
-pub put_slot_spec : {M : Type 1} → statement M
-put_slot_spec =
-    tie.close
-    (tie.spec (λ c. omega arith) (λ c. omega arith)
-    (λ c. omega arith) (λ c. omega arith) (λ c. simp length-set (omega arith))
-    (λ c. omega arith) (λ c. omega arith) (λ c. simp length-set (omega arith))
-    (λ c. omega arith) (λ c. omega arith) (λ c. simp length-set (omega arith))
-    (λ c. omega arith) (λ c. omega arith) (λ c. simp length-set (omega arith))
-    (λ c. omega arith) (λ c. omega arith) (λ c. simp length-set (omega arith))
-    (λ c. omega arith) (λ c. omega arith) (λ c. simp length-set (omega arith))
-    (λ c. omega arith) (λ c. omega arith) (λ c. simp length-set (omega arith))
-    (λ c. omega arith) (λ c. omega arith) (λ c. simp length-set (omega arith))
-    (λ c. omega arith) (λ c. omega arith) (λ c. simp length-set (omega arith))
-    (λ c. omega arith) (λ c. omega arith) (λ c. simp length-set (omega arith))
-    (λ c. omega arith) (λ c. omega arith) (λ c. simp length-set (omega arith))
-    (λ c. simp length-set) returns)
+pub bounds-slots-k-2 : goal.bounds-slots-k-2
+bounds-slots-k-2 c = simp length-set (omega arith)
+
+pub bounds-slots-k-3 : goal.bounds-slots-k-3
+bounds-slots-k-3 c = simp length-set (omega arith)
+
+pub bounds-slots-k-4 : goal.bounds-slots-k-4
+bounds-slots-k-4 c = simp length-set (omega arith)
+
+pub bounds-slots-k-5 : goal.bounds-slots-k-5
+bounds-slots-k-5 c = simp length-set (omega arith)
+
+pub bounds-slots-k-6 : goal.bounds-slots-k-6
+bounds-slots-k-6 c = simp length-set (omega arith)
+
+pub bounds-slots-k-7 : goal.bounds-slots-k-7
+bounds-slots-k-7 c = simp length-set (omega arith)
+
+pub bounds-slots-k-8 : goal.bounds-slots-k-8
+bounds-slots-k-8 c = simp length-set (omega arith)
+
+pub bounds-slots-k-9 : goal.bounds-slots-k-9
+bounds-slots-k-9 c = simp length-set (omega arith)
+
+pub bounds-slots-k-10 : goal.bounds-slots-k-10
+bounds-slots-k-10 c = simp length-set (omega arith)
+
+pub bounds-slots-k-11 : goal.bounds-slots-k-11
+bounds-slots-k-11 c = simp length-set (omega arith)
+
+pub bounds-slots-k-12 : goal.bounds-slots-k-12
+bounds-slots-k-12 c = simp length-set (omega arith)
+
+pub shape_of-slots : goal.shape_of-slots
+shape_of-slots c = simp length-set

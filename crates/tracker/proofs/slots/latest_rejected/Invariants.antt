@@ -1,0 +1,12 @@
+-- What the loop of `latest_rejected` keeps.
+use mathlib.Core.Path.{refl}
+use native.Mathlib.Omega.{arith}
+use borrow.Author.Rules.{rules}
+use Rattle.tracker.proofs.Searching.{rejected-two, accepted_two, Searching, searching-start, searching-more, searching-found, searching-none}
+use Rattle.tracker.proofs.slots.latest_rejected.Given as goal
+
+abbrev pub invariant-loop-k : goal.invariant-loop-k
+invariant-loop-k l = Searching l.slots l.stored l.k
+
+abbrev pub decreases-loop-k : goal.decreases-loop-k
+decreases-loop-k l = l.k
