@@ -1,6 +1,8 @@
 // src/estimator/information_filter.rs on a slice that the caller lends: a filter of state n, measurement m and input i is a, b,
 // h, q, r, xi and omega by rows, one after another, as a linear filter is with its state and covariance. Its steps stand in
 // c_information_steps. Refused with 1: a size, or a slice of another length.
+#![tactic(auto)]
+
 ghost use Rattle.std.specs.Prelude.{◌≡◌, length};
 ghost use Rattle.answer.specs.Told.{given};
 ghost use Rattle.c_information.specs.Information.{reset_in, from_information_in, new_in, state_in, covariance_in, vector_in, matrix_in};

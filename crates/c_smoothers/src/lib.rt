@@ -1,6 +1,8 @@
 // src/estimator/rts_smoother.rs on slices that the caller lends: state size n, room for slots in one slice, and a count that the
 // caller keeps. A pair is a state and its covariance by rows; a slot is the filtered pair and the predicted one. A store and a
 // slot handed out are copies. Refused with 1: a size, a count above room, or a slice of another length.
+#![tactic(auto)]
+
 ghost use Rattle.std.specs.Prelude.{◌≡◌, ◌&&◌, ◌≤◌, length};
 ghost use Rattle.answer.specs.Told.{given};
 ghost use Rattle.duty.specs.Buffer.{buffered};

@@ -1,5 +1,7 @@
 // The information filter of one road, written out: two states, one input and one measurement, by their numbers. A pair holds xi
 // and omega, where the linear filter's holds its state and covariance. The steps are the road's own and the inverse at two states.
+#![tactic(auto)]
+
 ghost use Rattle.std.specs.Prelude.{◌≡◌, [], ◌∷◌};
 ghost use Rattle.answer.specs.Outcome.{into};
 ghost use Rattle.filtering.specs.Information.{informed, of_estimate, predict as predict_of};

@@ -1,6 +1,8 @@
 // src/estimator/rts_smoother.rs at f64: the smoother of Rauch, Tung and Striebel. Its slots lie in a buffer that the
 // caller lends, slot k as 2n + 2n² numbers: state, covariance by rows, predicted state, predicted covariance. Here are the
 // records and the methods; the pass itself is crates/rts_pass.
+#![tactic(auto)]
+
 ghost use Rattle.std.specs.Prelude.{◌≡◌, true, ◌+◌, ◌≤◌, length};
 ghost use Rattle.sizes.specs.Size.{sized};
 ghost use Rattle.layout.specs.Layout.{placed, stride};

@@ -1,5 +1,7 @@
 // The square-root filter of one road, written out: two states, one input and one measurement, by their numbers. A pair holds the
 // state and the factor l, where the linear filter's holds its covariance. The tests are Cholesky's and the filter's own.
+#![tactic(auto)]
+
 ghost use Rattle.std.specs.Prelude.{◌≡◌, [], ◌∷◌};
 ghost use Rattle.answer.specs.Outcome.{into};
 ghost use Rattle.algebra.specs.Cholesky.{cholesky as cholesky_of};

@@ -1,0 +1,11 @@
+-- `RtsSmoother::new` meets its contract.
+use mathlib.Core.Path.{refl, sym, ◌∙◌}
+use Rattle.matrix.proofs.Results.{as_answered, as_refused}
+use Rattle.rts_smoother.specs.Record.{smoother, stored}
+use Rattle.rts_smoother.proofs.RtsSmoother.new.Goals as goal
+
+pub returns-then-is_counted : goal.returns-then-is_counted
+returns-then-is_counted c = as_answered (stored (smoother 0 0 0)) _ (sym c.is_counted.ensures ∙ c.if-is_counted.true) refl
+
+pub returns-else-is_counted : goal.returns-else-is_counted
+returns-else-is_counted c = as_refused (stored (smoother 0 0 0)) _ (sym c.is_counted.ensures ∙ c.if-is_counted.false) refl
