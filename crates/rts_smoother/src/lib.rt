@@ -223,8 +223,8 @@ impl RtsSmoother {
 
     // Slot k, as that part of the buffer itself; an empty part where it cannot be handed out.
     pub fn get_state(self, slots: &[f64], k: usize) -> &[f64]
-        ensures result_value { result.now ≡ get_state self slots.now k }
-        ensures ref_ptr_value { result.ref_ptr ≡ place_of self slots.now k slots.entry.ref_ptr }
+        ensures value { result.now ≡ get_state self slots.now k }
+        ensures place { result.ref_ptr ≡ place_of self slots.now k slots.entry.ref_ptr }
     {
         let n = self.n;
         if self.get_state_refusal(slots, k) == 0 {

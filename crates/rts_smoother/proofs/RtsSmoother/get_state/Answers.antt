@@ -14,10 +14,10 @@ use Rattle.rts_smoother.proofs.RtsSmoother.get_state.Reads as reads
 use Rattle.rts_smoother.proofs.RtsSmoother.get_state.Goals as goal
 
 abbrev After-stride_of-stride : Type 0
-After-stride_of-stride = lts.After-stride_of tie.the-claims reads.Pre reads.Post
+After-stride_of-stride = lts.After-stride_of tie.the-claims reads.Pre reads.Post tie.handed_clauses
 
 abbrev Then-get_state_refusal-eq0 : Type 0
-Then-get_state_refusal-eq0 = lts.Then1 tie.the-claims reads.Pre reads.Post
+Then-get_state_refusal-eq0 = lts.Then1 tie.the-claims reads.Pre reads.Post tie.handed_clauses
 
 no_refusal : (c : Then-get_state_refusal-eq0) → let a = c.args in get_state_refusal a.self a.slots.now a.k ≡ 0
 no_refusal c = sym c.get_state_refusal.ensures ∙ c.if-get_state_refusal-eq0.true
@@ -31,16 +31,16 @@ inside : (c : After-stride_of-stride) → let a = c.args in Within a.self a.slot
 inside c = let a = c.args in within a.self a.slots.now a.k (no_refusal c.before) (stride-here c)
 
 pub returns-then-get_state_refusal-eq0 : goal.returns-then-get_state_refusal-eq0
-returns-then-get_state_refusal-eq0 c = (
-  simp (eq-eqb _ _ (no_refusal c.before.before.before), stride-here c.before.before, add-sub_cancel_left),
-  simp (eq-eqb _ _ (no_refusal c.before.before.before), stride-here c.before.before),
-)
+returns-then-get_state_refusal-eq0 c = record {
+  value = simp (eq-eqb _ _ (no_refusal c.before.before.before), stride-here c.before.before, add-sub_cancel_left);
+  place = simp (eq-eqb _ _ (no_refusal c.before.before.before), stride-here c.before.before);
+}
 
 pub returns-else-get_state_refusal-eq0 : goal.returns-else-get_state_refusal-eq0
-returns-else-get_state_refusal-eq0 c = (
-  simp (ne_eqb _ _ (λ e. c.if-get_state_refusal-eq0.false (c.get_state_refusal.ensures ∙ e))),
-  simp (ne_eqb _ _ (λ e. c.if-get_state_refusal-eq0.false (c.get_state_refusal.ensures ∙ e))),
-)
+returns-else-get_state_refusal-eq0 c = record {
+  value = simp (ne_eqb _ _ (λ e. c.if-get_state_refusal-eq0.false (c.get_state_refusal.ensures ∙ e)));
+  place = simp (ne_eqb _ _ (λ e. c.if-get_state_refusal-eq0.false (c.get_state_refusal.ensures ∙ e)));
+}
 
 pub overflow_mul-from : goal.overflow_mul-from
 overflow_mul-from c = omega (arith, inside c.before)
