@@ -16,7 +16,6 @@ use Rattle.sheets.specs.Output.{all_metres}
 use Rattle.sheet_text.specs.Held.{field_of, whole_of}
 use Rattle.sheet_text.specs.declared.Whole.{Whole}
 use Rattle.sheet_text.specs.declared.Field.{Field}
-use Rattle.sheet_text.specs.declared.Field.TheVariants as Field
 use Rattle.sheet.specs.Held.{no_mark, no_marks, marks_over, marks_held}
 
 metres_bad : (o : Option ℤ) (d : Field) → d ≡ field_of o → d ≡ Field.Bad → o ≡ none

@@ -15,7 +15,7 @@ use Rattle.answer.specs.Table.{pad_to}
 use Rattle.scalar.specs.Number.{+0}
 use Rattle.tracking.specs.Track.{Smoothed, Tracked, rejected, tracked, track}
 use Rattle.tracking.proofs.Laws.{tracks}
-use Rattle.sheets.specs.Verdict.{refused, given, then}
+use Rattle.sheets.specs.Verdict.{given, then}
 use Rattle.sheets.specs.Sheet.{Sheet, read_sheet}
 use Rattle.sheets.specs.Output.{all_metres, readings_text, refusal_text, printed}
 use Rattle.sheets.specs.Report.{settings_of, measured_of, track_of, first_line, on_lines, lines_of, answer_of, report}

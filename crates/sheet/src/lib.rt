@@ -1,4 +1,6 @@
 // The depot sheet on bytes: a sheet in, a line for each reading out, or one refusal line; filtered and smoothed between.
+#![tactic(auto)]
+
 ghost use Rattle.std.specs.Prelude.{◌≡◌, map, ◌≤◌, length, take};
 ghost use Rattle.answer.specs.Told.{given};
 ghost use Rattle.sheets.specs.Report.{report as report_of};
