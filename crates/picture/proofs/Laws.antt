@@ -1,15 +1,14 @@
 -- A picture's call from the report's: 17 bytes are a refusal's line, any other number an answered sheet's. Assumes nothing.
 use mathlib.Core.Path.{◌≡◌, refl, sym, ap, ◌∙◌, subst}
-use mathlib.Core.Bool.{Bool, true, false}
-use mathlib.Core.List.{List, [], ◌∷◌, ◌++◌}
+use mathlib.Core.Bool.{false}
+use mathlib.Core.List.{List, ◌++◌}
 use mathlib.Core.Logic.{⊎_elim}
-use Prim.Native.Nat.{ℕ, suc, ◌+◌, ◌*◌, ◌≤◌, ◌<◌}
+use Prim.Native.Nat.{ℕ, ◌*◌, ◌≤◌, ◌<◌}
 use native.Mathlib.Omega.{arith}
 use lib.Dec.{ltb}
 use lib.ListN.{length, take, drop, length-append, take-append-drop}
 use lib.Seq.{take_at}
 use borrow.Author.Tests.{le-ltb}
-use Rattle.sheets.specs.Output.{refusal_text}
 use Rattle.sheets.specs.Report.{report}
 use Rattle.sheets.specs.Promise.{AnsweredSheet, RefusedSheet, ReadingLines, no_more, one_more, joined}
 use Rattle.sheets.specs.Sheet.{Sheet}
@@ -19,7 +18,7 @@ use Rattle.sheet.specs.Held.{Stored}
 use Rattle.sheet.specs.Call.{report_told, report_left}
 use Rattle.sheet.specs.declared.Reported.{Reported}
 use Rattle.sheet.specs.declared.Reported.TheVariants.{Written, Refused}
-use Rattle.picture.specs.Picture.{Drawn, Pictured, Picture, written_of}
+use Rattle.picture.specs.Picture.{Drawn, Pictured, written_of}
 
 -- the lines of readings are 25 bytes each, so they are never 17 together
 length-joined : {sh : Sheet} {i : ℕ} {texts : List (List ℕ)} → ReadingLines sh i texts → length (joined texts) ≡ 25 * length texts

@@ -1,5 +1,7 @@
 // The picture of a duty: a depot sheet in, an SVG file out, or the refusal line that the sheet's report is. What the file shows is
 // proved safe and to end; that it is one `svg` element, where it ends, and everything of a refusal are stated.
+#![tactic(auto)]
+
 ghost use Rattle.std.specs.Prelude.{◌≡◌, ◌+◌, ◌≤◌, length};
 ghost use Rattle.sheet.specs.Held.{Stored};
 ghost use Rattle.picture.specs.Picture.{Drawn, Pictured, written_of};
