@@ -1,5 +1,7 @@
 // `fuse_sensors` of src/estimator/information_filter.rs on slices that the caller lends: one sensor, or any number of them in one
 // slice, added to a filter that is laid out as in c_information. Refused with 1: a size, or a slice of another length.
+#![tactic(auto)]
+
 ghost use Rattle.std.specs.Prelude.{◌≡◌, [], ◌∷◌, ◌+◌, ◌*◌, ◌≤◌, length};
 ghost use Rattle.sizes.specs.Size.{count};
 ghost use Rattle.filtering.specs.Information.{fuse};

@@ -1,5 +1,7 @@
 // The steps of src/estimator/information_filter.rs on a slice that the caller lends, laid out as in c_information. A step reads the
 // parts that it needs as rows, once, and writes xi and omega back, once. Refused with 1: a size, or a slice of another length.
+#![tactic(auto)]
+
 ghost use Rattle.std.specs.Prelude.{◌≡◌, ◌+◌, ◌*◌};
 ghost use Rattle.c_information_steps.specs.Steps.{predict_in, update_in};
 

@@ -1,5 +1,7 @@
 // The steps of src/estimator/sqrt_kalman.rs on a slice that the caller lends, with the parts that crates/c_sqrt_kalman names. A step
 // reads the parts that it needs as rows, once, and writes x and s back, once. Refused with 1: a size, or a slice of another length.
+#![tactic(auto)]
+
 ghost use Rattle.std.specs.Prelude.{◌≡◌};
 ghost use Rattle.c_sqrt_steps.specs.Step.{predict_in, update_in};
 

@@ -1,6 +1,8 @@
 // `fuse_sensors` of src/estimator/information_filter.rs at f64: sensors in a lent slice of records, any count, fused one after
 // another by the one-sensor step of the filter. A size of the filter, or of any sensor, that does not fit is refused with 1, and
 // the filter is then unchanged, whatever stood before that sensor.
+#![tactic(auto)]
+
 ghost use Rattle.std.specs.Prelude.{◌≡◌};
 ghost use Rattle.fusion.specs.Fusion.{begun_of, joined_of, ended_of, fused_of};
 
