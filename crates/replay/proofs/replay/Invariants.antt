@@ -3,7 +3,7 @@ use Rattle.std.proofs.Common.{◌≡◌, ◌-◌, length}
 use Rattle.replay.proofs.replay.Given as goal
 
 abbrev pub invariant-loop-at : goal.invariant-loop-at
-invariant-loop-at l = length l.tally ≡ length l.initial.tally
+invariant-loop-at g l = length l.tally ≡ length l.initial.tally
 
 abbrev pub decreases-loop-at : goal.decreases-loop-at
-decreases-loop-at l = length l.list - l.at
+decreases-loop-at g l = length l.list - l.at
