@@ -2,7 +2,7 @@
 // measurements is one slice that the caller lends: for each model a, x, p, q and its likelihood, then transition, c, r and mu.
 ghost use Rattle.std.specs.Prelude.{◌≡◌, length};
 ghost use Rattle.answer.specs.Told.{given};
-ghost use Rattle.c_imm.specs.Bank.{mix_in, probabilities_in, fused_in, probability_in, new_in};
+ghost use Rattle.c_bank.specs.Bank.{mix_in, probabilities_in, fused_in, probability_in, new_in};
 
 // The bank of the models, one after another, the transition, c and r, each by rows; each probability is 1 / k.
 pub fn estimators_imm_new(

@@ -1,7 +1,7 @@
 // src/estimator/imm.rs for C: each export calls the function of its name, and has its contract.
 ghost use Rattle.std.specs.Prelude.{◌≡◌, length};
 ghost use Rattle.answer.specs.Told.{given};
-ghost use Rattle.c_imm.specs.Bank.{mix_in, probabilities_in, fused_in, probability_in, new_in};
+ghost use Rattle.c_bank.specs.Bank.{mix_in, probabilities_in, fused_in, probability_in, new_in};
 
 use estimators::imm;
 
