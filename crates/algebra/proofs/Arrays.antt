@@ -1,14 +1,14 @@
 -- Laws of arrays of four of which a part is used: `used` and `pad` undo each other, and a loop over the rows. Assumes nothing.
 use mathlib.Core.Path.{◌≡◌, refl, sym, ap, ◌∙◌, subst, ap₂, subst⁻¹}
-use mathlib.Core.List.{List, [], ◌∷◌, map, ◌++◌, map-append}
+use mathlib.Core.List.{List, ◌∷◌, map, ◌++◌, map-append}
 use Prim.Native.Nat.{ℕ, zero, suc, ◌+◌, ◌≤◌, ◌<◌, ◌*◌, ◌/◌, ◌%◌}
 use native.Mathlib.Nat.{not-suc-le-zero, le_of_suc-le-suc, le_trans}
 use native.Mathlib.Omega.{arith}
 use lib.ListN.{length, get_or, set, replicate, length-map}
 use lib.Ieee.{Float, nan}
-use Rattle.scalar.specs.Number.{◌⊗◌, +0, one, ◌⊕◌, ◌⊖◌}
+use Rattle.scalar.specs.Number.{◌⊗◌, +0, one}
 use Rattle.answer.specs.Table.{table, pad_to}
-use Rattle.algebra.specs.Matrix.{Vector, Matrix, at, row, cell, mat, sum_of, mul, matvec, transpose, add, identity, sub}
+use Rattle.algebra.specs.Matrix.{Vector, Matrix, at, row, cell, mat, sum_of, mul, matvec, transpose, identity}
 use Rattle.algebra.specs.Array.{cut, used, pad_row, pad, flat_of_rows, rows_of_flat, used_flat}
 use Rattle.answer.proofs.Tables.{length-table, get_or-table, table_ext, table-get_or, get_or-pad_to, map-table, Filling, filling-none, filling-more, filling-all, set-pad_to}
 use Rattle.algebra.proofs.Matrices.{sum_ext, Shape, shape-mat, cell-mat, mul_ext, matvec_ext, transpose_ext, both_ext, mat_ext}

@@ -1,6 +1,6 @@
 -- A bank in a slice: what its tests say, that the rows read from it are the bank, and what is put back. Assumes nothing.
 use mathlib.Core.Path.{◌≡◌, sym, ap, ap₂, ◌∙◌}
-use mathlib.Core.List.{List, []}
+use mathlib.Core.List.{List}
 use mathlib.Core.Bool.{Bool, true, false, ◌&&◌}
 use Prim.Native.Nat.{ℕ, ◌+◌, ◌*◌, ◌≤◌, ◌<◌}
 use native.Mathlib.Nat.{mul-le-mul, le_trans}
@@ -20,7 +20,6 @@ use Rattle.sizes.specs.declared.Size.{Size}
 use Rattle.sizes.specs.Size.{count}
 use Rattle.sizes.proofs.Sizes.{bounds, bounds_of}
 use Rattle.filtering.specs.Filter.{estimate}
-use Rattle.mixing.specs.Mixing.{model}
 use Rattle.layout.specs.Layout.{vector_at, matrix_at, matrix_in, total, model_length, bank_parts}
 use Rattle.layout.proofs.Rows.{ends-within}
 use Rattle.layout.proofs.Calls.{matrix-used}

@@ -1,6 +1,6 @@
 -- Two models of one road in a slice: what the test says, and that what is put back is the mixed bank. Assumes nothing.
-use mathlib.Core.Path.{◌≡◌, refl, sym, ap, ap₂, ◌∙◌}
-use mathlib.Core.List.{List, [], ◌∷◌, ◌++◌}
+use mathlib.Core.Path.{◌≡◌, refl, ap, ap₂, ◌∙◌}
+use mathlib.Core.List.{List, ◌∷◌, ◌++◌}
 use mathlib.Core.Bool.{true, ◌&&◌}
 use Prim.Native.Nat.{ℕ, ◌+◌, ◌≤◌}
 use native.Mathlib.Omega.{arith}
@@ -12,7 +12,7 @@ use Rattle.answer.specs.Table.{table}
 use Rattle.answer.proofs.Choice.{and_left, and_right}
 use Rattle.algebra.specs.Matrix.{Vector, Matrix, at}
 use Rattle.filtering.specs.Filter.{Estimate, estimate}
-use Rattle.mixing.specs.Mixing.{Bank, weighted, mixed_covariance, mixed_estimate, mix_estimates}
+use Rattle.mixing.specs.Mixing.{weighted, mixed_covariance, mixed_estimate, mix_estimates}
 use Rattle.layout.specs.Layout.{vector_at, joined, placed, put_at, total, bank_parts}
 use Rattle.layout.proofs.Calls.{slice-put}
 use Rattle.road.specs.declared.Pair.{Pair}
@@ -20,7 +20,7 @@ use Rattle.road.specs.declared.Two.{Two}
 use Rattle.road.specs.Road.{matrix_of, estimate_of}
 use Rattle.imm_road.specs.Road.{bank_of}
 use Rattle.c_bank.specs.Bank.{probabilities_place, is_bank, is_roads, estimate_at, bank_at, transition_at, roads_in, with_estimates, with_bank, mixed_in}
-use Rattle.c_bank.proofs.Banks.{Whole, whole_of}
+use Rattle.c_bank.proofs.Banks.{whole_of}
 
 -- ---- a slice of l numbers that passed the test
 pub record Road (n m k l : ℕ) : Type 0 where

@@ -1,6 +1,6 @@
 -- One road in a slice of 19 numbers: a step by its numbers is the step on the slice. Assumes nothing.
 use mathlib.Core.Path.{◌≡◌, sym, ap, ap₂, ◌∙◌}
-use mathlib.Core.List.{List, [], ◌∷◌}
+use mathlib.Core.List.{List, ◌∷◌}
 use mathlib.Core.Bool.{Bool}
 use Prim.Native.Nat.{ℕ}
 use lib.ListN.{length, set}
@@ -17,7 +17,7 @@ use Rattle.matrix.specs.Result.{as_one}
 use Rattle.matrix.proofs.Results.{answered-value, refused-number}
 use Rattle.small_inverse.specs.Two.{inv_number}
 use Rattle.small_inverse.proofs.Two.{number_is}
-use Rattle.filtering.specs.Filter.{Sensor, Estimate, innovation}
+use Rattle.filtering.specs.Filter.{Sensor, innovation}
 use Rattle.filtering.specs.Information.{Information, informed, state, predict, update}
 use Rattle.filtering.proofs.Shapes.{length-innovation}
 use Rattle.layout.proofs.Rows.{whole-vector}

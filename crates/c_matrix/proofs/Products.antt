@@ -1,6 +1,6 @@
 -- Laws of a product that is made row by row from slice to slice: the rows that are read, and the row that is put. Assumes nothing.
 use mathlib.Core.Path.{◌≡◌, refl, sym, ap, ◌∙◌}
-use mathlib.Core.List.{List, [], ◌∷◌}
+use mathlib.Core.List.{List, ◌∷◌}
 use Prim.Native.Nat.{ℕ, ◌+◌, ◌*◌, ◌<◌, ◌≤◌}
 use native.Mathlib.Nat.{le_trans}
 use native.Mathlib.Omega.{arith}
@@ -9,7 +9,7 @@ use lib.Ieee.{Float}
 use Rattle.scalar.specs.Number.{◌⊗◌}
 use Rattle.answer.specs.Table.{table}
 use Rattle.answer.proofs.Tables.{get_or-table, table_ext}
-use Rattle.algebra.specs.Matrix.{Vector, Matrix, at, row, cell, sum_of, mul}
+use Rattle.algebra.specs.Matrix.{Vector, Matrix, row, cell, sum_of, mul}
 use Rattle.algebra.specs.Array.{cut, used, pad_row}
 use Rattle.rows.specs.Row.{row_times}
 use Rattle.sizes.proofs.Sizes.{Bounds}

@@ -4,14 +4,14 @@ use mathlib.Core.List.{List}
 use mathlib.Core.Bool.{Bool, true, false, ◌&&◌}
 use mathlib.Core.Logic.{⊎_elim}
 use Prim.Native.Nat.{ℕ, zero, suc, ◌+◌, ◌≤◌, ◌<◌, suc-le-suc}
-use native.Mathlib.Nat.{le_of_lt, le_refl, le_trans, not-suc-le-zero, le_of_suc-le-suc, eq-or-lt_of_le}
+use native.Mathlib.Nat.{le_of_lt, le_refl, not-suc-le-zero, le_of_suc-le-suc, eq-or-lt_of_le}
 use native.Mathlib.Numerals.{add-one}
 use native.Mathlib.Omega.{arith}
 use lib.Ieee.{Float, eq}
 use lib.ListN.{replicate}
 use Rattle.scalar.specs.Number.{◌⊗◌, +0}
-use Rattle.algebra.specs.Matrix.{cell, mat, sum_from, sum_of, filled, scale, trace, squares, every, equal}
-use Rattle.algebra.specs.Array.{cut, used}
+use Rattle.algebra.specs.Matrix.{cell, sum_from, sum_of, filled, scale, trace, squares, every, equal}
+use Rattle.algebra.specs.Array.{used}
 use Rattle.algebra.proofs.Matrices.{sum_from_ext, sum_ext}
 use Rattle.algebra.proofs.Arrays.{cell-used, used-mat, both_used}
 

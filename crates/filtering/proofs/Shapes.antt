@@ -4,7 +4,7 @@ use Prim.Native.Nat.{ℕ}
 use lib.ListN.{length}
 use Rattle.answer.specs.Answer.{Answer, refused, answered}
 use Rattle.answer.specs.Outcome.{Outcome, unchanged, done, ◌else_leave◌then◌}
-use Rattle.algebra.specs.Matrix.{Vector, Matrix, mul, matvec, transpose, sub, identity}
+use Rattle.algebra.specs.Matrix.{Vector, Matrix, mul, transpose, sub, identity}
 use Rattle.algebra.specs.Inverse.{inv}
 use Rattle.algebra.proofs.Matrices.{Shape, shape-mul, shape-add}
 use Rattle.algebra.proofs.Vectors.{length-vec_add, length-vec_sub}

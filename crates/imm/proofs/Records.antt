@@ -1,13 +1,13 @@
 -- The rows that are read from a record are the bank that it holds, and the record around what a step leaves of them. Assumes nothing.
-use mathlib.Core.Path.{◌≡◌, refl, sym, ap, ap₂, ◌∙◌}
-use mathlib.Core.List.{List, []}
-use Prim.Native.Nat.{ℕ, ◌≤◌, ◌<◌}
+use mathlib.Core.Path.{◌≡◌, ap, ap₂, ◌∙◌}
+use mathlib.Core.List.{List}
+use Prim.Native.Nat.{ℕ}
 use native.Mathlib.Nat.{le_trans}
 use lib.ListN.{get_or}
 use lib.Ieee.{Float, nan}
 use Rattle.answer.specs.Table.{table}
 use Rattle.answer.proofs.Tables.{get_or-table, table_ext}
-use Rattle.algebra.specs.Matrix.{Vector, Matrix, at, row}
+use Rattle.algebra.specs.Matrix.{at, row}
 use Rattle.algebra.specs.Array.{cut, used, used_flat, rows_of_flat}
 use Rattle.algebra.proofs.Arrays.{used-rows_of_flat}
 use Rattle.sizes.specs.declared.Size.{Size}

@@ -1,7 +1,7 @@
 -- Laws of a bank of models in arrays: the definitions' sums, read off the arrays. Assumes nothing.
 use mathlib.Core.Path.{◌≡◌, refl, sym, ap, ap₂, ◌∙◌}
 use mathlib.Core.Bool.{cond}
-use mathlib.Core.List.{List, []}
+use mathlib.Core.List.{List}
 use Prim.Native.Nat.{ℕ, ◌≤◌, ◌<◌}
 use native.Mathlib.Nat.{le_trans}
 use lib.ListN.{length, get_or}
@@ -10,7 +10,7 @@ use Rattle.scalar.specs.Number.{◌⊕◌, ◌⊖◌, ◌⊗◌, ◌⊘◌, +0, 
 use Rattle.scalar.proofs.Product.{times-comm}
 use Rattle.answer.specs.Table.{table, pad_to}
 use Rattle.answer.proofs.Tables.{get_or-table, table_ext, length-table}
-use Rattle.algebra.specs.Matrix.{Vector, Matrix, at, row, cell, mat, sum_of, vec_sub}
+use Rattle.algebra.specs.Matrix.{Vector, at, row, cell, mat, sum_of, vec_sub}
 use Rattle.algebra.specs.Array.{cut, used}
 use Rattle.algebra.proofs.Matrices.{sum_ext, cell-mat, mat_ext}
 use Rattle.algebra.proofs.Arrays.{at_cut, cell-used}

@@ -1,10 +1,9 @@
 -- A bank that is held elsewhere, as a record or in a slice: a step on the rows read from it is the step on what it holds. Assumes nothing.
-use mathlib.Core.Path.{◌≡◌, refl, sym, ap, ◌∙◌}
-use mathlib.Core.List.{List, []}
+use mathlib.Core.Path.{◌≡◌, refl, sym, ◌∙◌}
+use mathlib.Core.List.{List}
 use Prim.Native.Nat.{ℕ}
 use lib.Ieee.{Float}
 use Rattle.algebra.specs.Matrix.{Vector, Matrix}
-use Rattle.algebra.specs.Array.{cut}
 use Rattle.sizes.specs.declared.Size.{Size}
 use Rattle.sizes.specs.Size.{count, front, part}
 use Rattle.filtering.specs.Filter.{Estimate}

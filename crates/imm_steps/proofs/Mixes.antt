@@ -1,15 +1,15 @@
 -- A turn of the loop over the models makes a mixed estimate; all turns make the mixed bank. Assumes nothing.
 use mathlib.Core.Path.{◌≡◌, refl, sym, ap, ap₂, ◌∙◌}
 use mathlib.Core.Bool.{cond}
-use mathlib.Core.List.{List, []}
+use mathlib.Core.List.{List}
 use Prim.Native.Nat.{ℕ, ◌≤◌, ◌<◌}
 use lib.ListN.{length, replicate}
 use lib.Ieee.{Float, nan, lt}
 use Rattle.scalar.specs.Number.{◌⊗◌, ◌⊘◌, +0, epsilon}
-use Rattle.answer.specs.Table.{table, pad_to}
+use Rattle.answer.specs.Table.{table}
 use Rattle.answer.proofs.Tables.{get_or-pad_to, length-table, Filling, filling-all}
 use Rattle.algebra.specs.Matrix.{Vector, Matrix, at, cell, sum_of}
-use Rattle.algebra.specs.Array.{cut, used, pad_row, pad}
+use Rattle.algebra.specs.Array.{cut, pad_row, pad}
 use Rattle.algebra.proofs.Arrays.{cut-pad_row}
 use Rattle.sizes.specs.declared.Size.{Size}
 use Rattle.sizes.specs.Size.{count, front, part}

@@ -1,6 +1,6 @@
 -- Steps on rows are steps on a record's numbers, which stand flat; and the ways out of the methods. Assumes nothing.
 use mathlib.Core.Path.{◌≡◌, refl, sym, ap, ◌∙◌}
-use mathlib.Core.List.{List, []}
+use mathlib.Core.List.{List}
 use mathlib.Core.Bool.{Bool, true, false, ◌&&◌}
 use Prim.Native.Nat.{ℕ}
 use lib.ListN.{length}
@@ -13,18 +13,18 @@ use Rattle.answer.specs.Outcome.{Outcome, unchanged, done, into, if_fitting, han
 use Rattle.answer.specs.Told.{status_of}
 use Rattle.answer.proofs.Choice.{and_left}
 use Rattle.algebra.specs.Matrix.{Vector, Matrix}
-use Rattle.algebra.specs.Array.{cut, used, pad_row, rows_of_flat, flat_of_rows}
+use Rattle.algebra.specs.Array.{cut, rows_of_flat, flat_of_rows}
 use Rattle.algebra.specs.Inverse.{inv}
 use Rattle.algebra.proofs.Matrices.{Shape}
 use Rattle.algebra.proofs.Arrays.{used-pad, cut-pad_row}
 use Rattle.sizes.specs.declared.Size.{Size}
 use Rattle.matrix.specs.declared.VectorResult.{VectorResult}
-use Rattle.sizes.specs.Size.{count, front, part, size_of}
+use Rattle.sizes.specs.Size.{count, size_of}
 use Rattle.matrix.specs.Result.{as_vector}
 use Rattle.sizes.proofs.Sizes.{is_count}
 use Rattle.filtering.specs.Filter.{Motion, Sensor, Estimate}
 use Rattle.filtering.specs.Information.{Information, of_estimate, update}
-use Rattle.steps.specs.Step.{Rows, well_sized, fitting, estimate_rows}
+use Rattle.steps.specs.Step.{Rows, well_sized, fitting}
 use Rattle.steps.proofs.Sizes.{Fits, fits}
 use Rattle.steps.proofs.Flats.{read}
 use Rattle.information_steps.specs.Step.{information_rows, arrays_of, update_by}

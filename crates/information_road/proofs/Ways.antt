@@ -1,12 +1,12 @@
 -- The ways out of the steps of one road, by what the inversions answer. Assumes nothing.
-use mathlib.Core.Path.{◌≡◌, refl, sym, ap, ◌∙◌}
-use mathlib.Core.List.{[], ◌∷◌}
+use mathlib.Core.Path.{◌≡◌, sym, ap, ◌∙◌}
+use mathlib.Core.List.{◌∷◌}
 use Prim.Native.Nat.{ℕ}
 use lib.Ieee.{Float}
 use Rattle.answer.specs.declared.Status.{Status}
 use Rattle.answer.specs.declared.Status.TheVariants.{Done, Refused}
-use Rattle.answer.specs.Answer.{Answer, refused, answered, and_then, mapped}
-use Rattle.answer.specs.Outcome.{Outcome, this, done, final, into}
+use Rattle.answer.specs.Answer.{Answer, refused, answered, mapped}
+use Rattle.answer.specs.Outcome.{this, done, final, into}
 use Rattle.scalar.specs.Number.{◌⊕◌, ◌⊖◌, ◌⊗◌, +0}
 use Rattle.algebra.specs.Matrix.{Vector, Matrix, at, sum_from, matvec, vec_sub, two_by_two}
 use Rattle.algebra.specs.Array.{cut, used, pad}
@@ -18,7 +18,7 @@ use Rattle.matrix.specs.declared.ScalarResult.TheVariants as Scalar
 use Rattle.matrix.specs.Result.{as_matrix}
 use Rattle.small_inverse.specs.Two.{in_rows}
 use Rattle.matrix.proofs.Results.{was_answered, was_refused}
-use Rattle.filtering.specs.Filter.{Motion, Estimate, estimate, predicted_state, predicted_covariance, innovation}
+use Rattle.filtering.specs.Filter.{Motion, estimate, predicted_state, predicted_covariance, innovation}
 use Rattle.filtering.specs.Linear.{predict as linear}
 use Rattle.filtering.specs.Information.{Information, information, of_estimate, covariance, state, predict, informed}
 use Rattle.road.specs.declared.Two.{Two}

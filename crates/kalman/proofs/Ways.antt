@@ -1,27 +1,20 @@
 -- The ways out of an update: refused, and nothing changes; or answered, and an estimate is left. Assumes nothing.
 use mathlib.Core.Path.{◌≡◌, sym, ap, ◌∙◌}
-use mathlib.Core.List.{List, [], ◌∷◌}
+use mathlib.Core.List.{List, ◌∷◌}
 use Prim.Native.Nat.{ℕ}
-use lib.ListN.{length}
-use lib.Ieee.{Float, nan}
-use Rattle.answer.specs.declared.Status.{Status}
+use lib.Ieee.{Float}
 use Rattle.answer.specs.declared.Status.TheVariants.{Done, Refused}
-use Rattle.answer.specs.Answer.{Answer, refused, answered}
-use Rattle.answer.specs.Outcome.{Outcome, unchanged, done, ◌else_leave◌then◌, handed}
-use Rattle.answer.specs.Table.{table}
-use Rattle.answer.proofs.Tables.{table-get_or}
+use Rattle.answer.specs.Answer.{refused, answered}
+use Rattle.answer.specs.Outcome.{Outcome, handed}
 use Rattle.answer.proofs.Answers.{differ}
-use Rattle.algebra.specs.Matrix.{Vector, Matrix, at, matvec}
+use Rattle.algebra.specs.Matrix.{Vector, at}
 use Rattle.algebra.specs.Array.{pad_row, flat_of_rows}
-use Rattle.algebra.specs.Inverse.{inv}
-use Rattle.algebra.proofs.Vectors.{length-vec_sub}
 use Rattle.matrix.specs.declared.VectorResult.{VectorResult}
 use Rattle.matrix.specs.declared.ScalarResult.{ScalarResult}
 use Rattle.matrix.specs.declared.ScalarResult.TheVariants as Scalar
 use Rattle.matrix.specs.Result.{vector_result, as_vector}
 use Rattle.matrix.proofs.Results.{done_not_refused, answered-value, refused-number}
-use Rattle.filtering.specs.Filter.{Sensor, Estimate, propagated, innovation}
-use Rattle.filtering.specs.Linear.{correction, update}
+use Rattle.filtering.specs.Filter.{Estimate}
 use Rattle.filtering.proofs.Shapes.{Way, stopped, went}
 use Rattle.steps.specs.Step.{Rows, updated_rows}
 use Rattle.steps.specs.Flat.{flat}

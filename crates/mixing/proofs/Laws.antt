@@ -1,11 +1,11 @@
 -- One model of weight 1 keeps its state, but for −0. Assumes nothing.
 use mathlib.Core.Path.{◌≡◌, refl, ap, ◌∙◌}
-use mathlib.Core.List.{[], ◌∷◌}
+use mathlib.Core.List.{◌∷◌}
 use Prim.Native.Nat.{ℕ}
 use Rattle.scalar.specs.Number.{◌⊕◌, ◌⊗◌, +0, one}
 use Rattle.answer.proofs.Tables.{table_ext}
 use Rattle.algebra.specs.Matrix.{at, sum_from}
-use Rattle.mixing.specs.Mixing.{Bank, model, weighted, weights, mixed_estimate, mix_estimates, fused_estimate}
+use Rattle.mixing.specs.Mixing.{Bank, model, weighted}
 use Rattle.mixing.specs.Laws.{Laws, Numbers, alone, kept}
 use Rattle.mixing.proofs.Computing.{computing}
 use Rattle.mixing.proofs.Kept.{term-kept}

@@ -1,13 +1,12 @@
 -- An update of one road, by what the inversion of its one innovation variance answers. Assumes nothing.
 use mathlib.Core.Path.{◌≡◌, sym, ap, ◌∙◌}
-use mathlib.Core.List.{[], ◌∷◌}
+use mathlib.Core.List.{◌∷◌}
 use Prim.Native.Nat.{ℕ}
 use lib.Ieee.{Float}
 use Rattle.answer.specs.Answer.{Answer, refused, answered, mapped}
 use Rattle.answer.specs.Outcome.{unchanged, ◌else_leave◌then◌}
 use Rattle.scalar.specs.Number.{◌⊕◌, ◌⊖◌, ◌⊗◌, +0}
 use Rattle.algebra.specs.Matrix.{Matrix, sum_from, mul, matvec, transpose, add, vec_sub, one_by_one}
-use Rattle.algebra.specs.Inverse.{inv}
 use Rattle.matrix.specs.declared.ScalarResult.{ScalarResult}
 use Rattle.matrix.specs.declared.ScalarResult.TheVariants as Scalar
 use Rattle.small_inverse.specs.Two.{inv_number}

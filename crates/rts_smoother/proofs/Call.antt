@@ -1,14 +1,14 @@
 -- A call of the method whose sizes are right answers as smoothing its duty does, so demand 3 holds of it; and a store adds a slot. Assumes nothing.
 use mathlib.Core.Path.{◌≡◌, refl, sym, ap, ◌∙◌, subst⁻¹}
 use mathlib.Core.Bool.{Bool, true, false}
-use mathlib.Core.List.{List, [], ◌∷◌, ◌++◌}
+use mathlib.Core.List.{List, ◌∷◌, ◌++◌}
 use Prim.Native.Nat.{ℕ, ◌*◌, ◌≤◌}
 use native.Mathlib.Nat.{mul-le-mul_right}
 use native.Mathlib.Omega.{arith}
 use lib.Dec.{leb}
 use lib.ListN.{length}
 use lib.Ieee.{Float}
-use Rattle.answer.specs.Answer.{Answer, refused, answered, if_sized, refused_if}
+use Rattle.answer.specs.Answer.{answered, if_sized, refused_if}
 use Rattle.algebra.specs.Matrix.{Matrix}
 use Rattle.algebra.specs.Array.{used_flat}
 use Rattle.algebra.proofs.Matrices.{shape-mat}

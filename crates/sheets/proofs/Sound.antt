@@ -1,7 +1,7 @@
 -- No refusal of a sheet has the number 0. Assumes nothing.
 use mathlib.Core.Path.{◌≡◌, refl, sym, ap, ◌∙◌}
 use mathlib.Core.Bool.{Bool, true, false, cond}
-use mathlib.Core.List.{List, [], ◌∷◌}
+use mathlib.Core.List.{List, ◌∷◌}
 use mathlib.Core.Option.{Option, none, some}
 use Prim.Native.Nat.{ℕ, zero, suc, ◌+◌, ◌*◌, ◌<◌}
 use native.Mathlib.Omega.{arith}
@@ -12,7 +12,7 @@ use lib.ListN.{length}
 use Rattle.sheets.specs.Verdict.{Verdict, refused, given, then, mapped, prepend}
 use Rattle.sheets.specs.Line.{form, values, read_lines}
 use Rattle.sheets.specs.Metres.{metres_of}
-use Rattle.sheets.specs.Sheet.{Sheet, head_test, end_test, reading_test, only, stages_of, readings_of, sheet_length, read_head, read_ends, read_readings, read_rows, sheet_of, read_sheet}
+use Rattle.sheets.specs.Sheet.{head_test, end_test, reading_test, only, stages_of, readings_of, sheet_length, read_head, read_ends, read_readings, read_rows, sheet_of, read_sheet}
 use Rattle.sheets.specs.Output.{or_refused, all_metres}
 
 unfoldable pub Sound : {A : Type 0} → Verdict A → Type 0

@@ -1,6 +1,6 @@
 -- One reading: what `update` leaves and tells for it, as a number. Assumes nothing.
 use mathlib.Core.Path.{◌≡◌, refl, sym, ap, subst, ◌∙◌}
-use mathlib.Core.List.{List, [], ◌∷◌}
+use mathlib.Core.List.{List, ◌∷◌}
 use mathlib.Core.Bool.{Bool, true, false}
 use Prim.Native.Nat.{ℕ}
 use lib.Ieee.{Float}
@@ -9,14 +9,13 @@ use Rattle.answer.specs.declared.Status.{Status}
 use Rattle.answer.specs.declared.Status.TheVariants.{Done, Refused}
 use Rattle.answer.specs.Answer.{Answer, refused, answered}
 use Rattle.answer.specs.Outcome.{Outcome, if_fitting, standing}
-use Rattle.algebra.specs.Matrix.{Vector, at, row}
+use Rattle.algebra.specs.Matrix.{Vector, at}
 use Rattle.algebra.specs.Array.{cut, used_flat}
 use Rattle.algebra.proofs.Matrices.{Shape, shape-mat}
 use Rattle.matrix.specs.declared.ScalarResult.TheVariants as Scalar
 use Rattle.matrix.specs.declared.VectorResult.{VectorResult}
 use Rattle.matrix.specs.Result.{as_vector}
 use Rattle.matrix.proofs.Results.{done_not_refused}
-use Rattle.filtering.specs.Filter.{Sensor}
 use Rattle.filtering.specs.SquareRoot.{Factored, components, update}
 use Rattle.steps.specs.Step.{fitting}
 use Rattle.matrix.specs.Result.{as_one}
@@ -25,7 +24,7 @@ use Rattle.sqrt_steps.proofs.Components.{Way, stopped, failed, went, way}
 use Rattle.sqrt_kalman.specs.declared.SqrtKalman.{SqrtKalman}
 use Rattle.sqrt_kalman.specs.declared.Updated.{Updated}
 use Rattle.sqrt_kalman.specs.declared.UpdatedOne.{UpdatedOne}
-use Rattle.sqrt_kalman.specs.Record.{channel_flat, factored_flat, held, holding, updating, update_of, update_one_of}
+use Rattle.sqrt_kalman.specs.Record.{channel_flat, held, holding, updating, update_of, update_one_of}
 
 -- ---- a refusal, or one number
 data Single : Answer Vector → Type 0 where

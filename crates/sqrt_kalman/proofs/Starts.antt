@@ -19,7 +19,7 @@ use Rattle.filtering.specs.SquareRoot.{factored, of_estimate}
 use Rattle.steps.specs.Flat.{flat, estimate_from}
 use Rattle.sqrt_kalman.specs.declared.SqrtKalman.{SqrtKalman}
 use Rattle.sqrt_kalman.specs.declared.Stepped.{Stepped}
-use Rattle.sqrt_kalman.specs.Record.{flats_of, record_of, factored_from, no_filter, made, from_cholesky_of, new_of}
+use Rattle.sqrt_kalman.specs.Record.{flats_of, record_of, factored_from, no_filter, made}
 
 -- ---- the numbers x and s set by `reset`: t is the test of the sizes, x0 and p0 what is given
 module _ (x s x0 : List Float) (p0 : List (List Float)) (n : ℕ) where

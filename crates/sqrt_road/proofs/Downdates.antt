@@ -1,10 +1,9 @@
 -- The downdate of a factor of two rows, written out, by what its diagonals answer. Assumes nothing.
 use mathlib.Core.Path.{◌≡◌, refl, sym, ap, ◌∙◌}
-use mathlib.Core.List.{[], ◌∷◌}
+use mathlib.Core.List.{◌∷◌}
 use Prim.Native.Nat.{ℕ}
 use lib.Ieee.{Float}
 use Rattle.scalar.specs.Number.{◌⊖◌, ◌⊗◌, ◌⊘◌}
-use Rattle.answer.specs.declared.Status.{Status}
 use Rattle.answer.specs.declared.Status.TheVariants.{Done, Refused}
 use Rattle.answer.specs.Answer.{Answer, refused, answered}
 use Rattle.answer.specs.Outcome.{Outcome, unchanged, only, done, onward, ◌else_leave◌then◌}

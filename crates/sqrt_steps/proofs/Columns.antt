@@ -1,8 +1,8 @@
 -- A column of the downdate: four cells are made, and those of the used part are the definition's. Assumes nothing.
-use mathlib.Core.Path.{◌≡◌, refl, sym, ap, ap₂, ◌∙◌}
+use mathlib.Core.Path.{◌≡◌, refl, sym, ap, ◌∙◌}
 use mathlib.Core.Bool.{Bool, cond}
 use mathlib.Core.List.{List}
-use Prim.Native.Nat.{ℕ, zero, suc, ◌≤◌, ◌<◌}
+use Prim.Native.Nat.{ℕ, zero, suc, ◌<◌}
 use native.Mathlib.Nat.{le_trans}
 use native.Mathlib.Omega.{arith}
 use borrow.Author.Tests.{le-ltb}
@@ -16,7 +16,7 @@ use Rattle.answer.specs.Table.{table}
 use Rattle.answer.proofs.Choice.{cond-false}
 use Rattle.answer.proofs.Tables.{get_or-table, table_ext}
 use Rattle.algebra.specs.Matrix.{Vector, Matrix, at, cell, mat}
-use Rattle.algebra.specs.Array.{cut, used, pad_row, pad}
+use Rattle.algebra.specs.Array.{pad_row, pad}
 use Rattle.algebra.proofs.Matrices.{mat_ext}
 use Rattle.algebra.proofs.Arrays.{at_cut, cell-used, used-mat}
 use Rattle.sizes.specs.declared.Size.{Size}

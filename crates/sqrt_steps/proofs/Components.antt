@@ -1,8 +1,8 @@
 -- One component of a measurement: what it leaves, its ways out, and its numbers as the code makes them. Assumes nothing.
 use mathlib.Core.Path.{◌≡◌, refl, sym, ap, ap₂, ◌∙◌}
 use mathlib.Core.Bool.{cond}
-use mathlib.Core.List.{List, [], ◌∷◌, ◌++◌}
-use Prim.Native.Nat.{ℕ, ◌≤◌, ◌<◌}
+use mathlib.Core.List.{List, ◌∷◌, ◌++◌}
+use Prim.Native.Nat.{ℕ}
 use native.Mathlib.Nat.{le_trans}
 use native.Mathlib.Omega.{arith}
 use lib.Dec.{leb}
@@ -21,7 +21,7 @@ use Rattle.answer.proofs.Tables.{get_or-table, table_ext}
 use Rattle.algebra.specs.Matrix.{Vector, Matrix, at, cell, sum_of, dot, matvec, transpose, vec_add, vec_scale}
 use Rattle.algebra.specs.Array.{cut, pad_row, pad}
 use Rattle.algebra.proofs.Matrices.{Shape, sum_ext, cell-mat}
-use Rattle.algebra.proofs.Arrays.{at_cut, cell-used, cut-pad_row, shape-used}
+use Rattle.algebra.proofs.Arrays.{at_cut, cell-used, cut-pad_row}
 use Rattle.algebra.proofs.Vectors.{dot-cut, length-vec_add, length-matvec, each-cut}
 use Rattle.sizes.specs.declared.Size.{Size}
 use Rattle.matrix.specs.declared.ScalarResult.{ScalarResult}

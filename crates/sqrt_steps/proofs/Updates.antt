@@ -1,7 +1,7 @@
 -- The update: the loop over the components of a measurement, each from what the one before it left. Assumes nothing.
-use mathlib.Core.Path.{◌≡◌, refl, sym, ap, ◌∙◌, subst}
-use mathlib.Core.List.{List, [], ◌∷◌, ◌++◌}
-use Prim.Native.Nat.{ℕ, zero, suc, ◌+◌, ◌≤◌, ◌<◌}
+use mathlib.Core.Path.{◌≡◌, refl, sym, ap, ◌∙◌}
+use mathlib.Core.List.{List, ◌∷◌, ◌++◌}
+use Prim.Native.Nat.{ℕ, ◌+◌, ◌≤◌, ◌<◌}
 use native.Mathlib.Decide.{le_ind}
 use native.Mathlib.Numerals.{add-one}
 use native.Mathlib.Omega.{arith}
@@ -9,11 +9,11 @@ use lib.ListN.{length, set, replicate, length-append}
 use lib.Ieee.{Float}
 use Rattle.scalar.specs.Number.{+0}
 use Rattle.answer.specs.declared.Status.TheVariants.{Done}
-use Rattle.answer.specs.Answer.{Answer, refused, answered, mapped}
+use Rattle.answer.specs.Answer.{refused, answered, mapped}
 use Rattle.answer.specs.Outcome.{Outcome, Left, unchanged, this, final, later, onward, standing, handed}
 use Rattle.answer.proofs.Tables.{set-pad_to}
-use Rattle.algebra.specs.Matrix.{Vector, Matrix, at, row}
-use Rattle.algebra.specs.Array.{cut, used, pad_row, pad}
+use Rattle.algebra.specs.Matrix.{Vector, at, row}
+use Rattle.algebra.specs.Array.{cut, used, pad_row}
 use Rattle.algebra.proofs.Arrays.{at_cut, row-used, cut-pad_row, used-pad, shape-used}
 use Rattle.sizes.specs.declared.Size.{Size}
 use Rattle.matrix.specs.declared.ScalarResult.{ScalarResult}
@@ -26,7 +26,7 @@ use Rattle.filtering.specs.SquareRoot.{Factored, factored, component, components
 use Rattle.steps.specs.Step.{Rows}
 use Rattle.matrix.specs.Result.{as_one}
 use Rattle.sqrt_steps.specs.Step.{factored_rows, channel_rows, arrays_of}
-use Rattle.sqrt_steps.proofs.Components.{Way, stopped, failed, went, Sized, way, component-after}
+use Rattle.sqrt_steps.proofs.Components.{Way, stopped, failed, went, way, component-after}
 
 -- ---- what the call of a component says of it
 

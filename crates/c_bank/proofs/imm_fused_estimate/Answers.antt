@@ -19,7 +19,6 @@ use Rattle.steps.proofs.Sizes.{well_sized_lem}
 use Rattle.c_bank.specs.Bank.{is_bank_with, bank_at}
 use Rattle.c_bank.proofs.Banks.{Whole, whole_of}
 use Rattle.c_bank.proofs.Steps.{fuses}
-use borrow.Author.Rules.{rules}
 use Rattle.c_bank.proofs.imm_fused_estimate.Lts as lts
 use Rattle.c_bank.proofs.imm_fused_estimate.Tie as tie
 use Rattle.c_bank.proofs.imm_fused_estimate.Reads as reads

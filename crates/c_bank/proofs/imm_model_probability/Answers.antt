@@ -1,6 +1,6 @@
 -- `imm_model_probability` meets its contract: by the tests of the bank and of the model.
 use native.Mathlib.Omega.{arith}
-use mathlib.Core.Path.{◌≡◌, refl, sym, ap, ◌∙◌}
+use mathlib.Core.Path.{sym, ap, ◌∙◌}
 use mathlib.Core.Bool.{Bool, ◌&&◌}
 use mathlib.Core.List.{List}
 use Prim.Native.Nat.{ℕ, ◌+◌, ◌<◌}
@@ -13,7 +13,6 @@ use Rattle.answer.specs.Answer.{where_sized}
 use Rattle.algebra.specs.Matrix.{at}
 use Rattle.c_bank.specs.Bank.{is_bank, is_model, probabilities_place}
 use Rattle.c_bank.proofs.Banks.{Whole, whole_of}
-use borrow.Author.Rules.{rules}
 use Rattle.c_bank.proofs.imm_model_probability.Lts as lts
 use Rattle.c_bank.proofs.imm_model_probability.Tie as tie
 use Rattle.c_bank.proofs.imm_model_probability.Reads as reads

@@ -17,7 +17,6 @@ use Rattle.steps.proofs.Sizes.{well_sized_lem}
 use Rattle.c_bank.specs.Bank.{bank_at, with_probabilities}
 use Rattle.c_bank.proofs.Banks.{Whole, whole_of}
 use Rattle.c_bank.proofs.Steps.{updates}
-use borrow.Author.Rules.{rules}
 use Rattle.c_bank.proofs.imm_update_probabilities.Lts as lts
 use Rattle.c_bank.proofs.imm_update_probabilities.Tie as tie
 use Rattle.c_bank.proofs.imm_update_probabilities.Reads as reads

@@ -3,8 +3,7 @@ use native.Mathlib.Omega.{arith}
 use mathlib.Core.Path.{◌≡◌, refl, sym, ◌∙◌}
 use mathlib.Core.Bool.{true}
 use Rattle.steps.specs.Step.{well_sized}
-use borrow.Author.Rules.{rules}
-use Rattle.c_bank.proofs.Banks.{Few, few_of, bank-tested, bank-unsized}
+use Rattle.c_bank.proofs.Banks.{few_of, bank-tested, bank-unsized}
 use Rattle.c_bank.proofs.is_bank.Lts as lts
 use Rattle.c_bank.proofs.is_bank.Tie as tie
 use Rattle.c_bank.proofs.is_bank.Reads as reads

@@ -9,7 +9,7 @@ use Rattle.sizes.proofs.Sizes.{bounds}
 use Rattle.layout.specs.Layout.{model_length}
 use Rattle.c_bank.specs.Bank.{series, mixed_row_in}
 use Rattle.layout.specs.Layout.{joined}
-use Rattle.c_bank.proofs.Rowing.{Rowing, rowing_none, rowing_more, rowing_room}
+use Rattle.c_bank.proofs.Rowing.{rowing_none, rowing_more, rowing_room}
 use Rattle.c_bank.proofs.mix_covariances.Goals as goal
 
 pub loop-r-init : goal.loop-r-init

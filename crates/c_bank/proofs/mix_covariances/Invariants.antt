@@ -1,15 +1,9 @@
 -- What the loop of `mix_covariances` keeps.
-use Prim.Native.Nat.{ℕ, ◌-◌, ◌≤◌, ◌<◌, ◌+◌, ◌*◌}
-use native.Mathlib.Nat.{mul-le-mul}
-use native.Mathlib.Omega.{arith}
-use mathlib.Core.Path.{◌≡◌, ap, ap₂, ◌∙◌, subst}
-use Rattle.answer.specs.Table.{table}
+use Prim.Native.Nat.{◌-◌}
+use mathlib.Core.Path.{◌≡◌}
 use Rattle.sizes.specs.Size.{count}
-use Rattle.sizes.proofs.Sizes.{bounds}
 use Rattle.layout.specs.Layout.{model_length}
-use Rattle.c_bank.specs.Bank.{series, mixed_row_in}
-use Rattle.layout.specs.Layout.{joined}
-use Rattle.c_bank.proofs.Rowing.{Rowing, rowing_none, rowing_more, rowing_room}
+use Rattle.c_bank.proofs.Rowing.{Rowing}
 use Rattle.c_bank.proofs.mix_covariances.Given as goal
 
 abbrev pub invariant-loop-r : goal.invariant-loop-r

@@ -5,7 +5,6 @@ use Rattle.sizes.proofs.Sizes.{bounds}
 use Rattle.c_bank.specs.Bank.{mixed_row_in}
 use Rattle.c_bank.proofs.Serials.{both-placed}
 use Rattle.c_bank.proofs.Rowing.{pair_is}
-use borrow.Author.Rules.{rules}
 use Rattle.c_bank.proofs.mix_pair.Goals as goal
 
 pub returns : goal.returns

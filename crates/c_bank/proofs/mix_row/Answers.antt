@@ -1,14 +1,13 @@
 -- `mix_row` meets its contract: two models are mixed as a pair; otherwise a turn mixes one model's row from the rows of all, which were read before.
-use Prim.Native.Nat.{ℕ, ◌-◌, ◌≤◌, ◌<◌, ◌+◌, ◌*◌}
+use Prim.Native.Nat.{ℕ, ◌-◌, ◌≤◌, ◌+◌, ◌*◌}
 use native.Mathlib.Omega.{arith}
 use mathlib.Core.Path.{◌≡◌, sym, ap, ◌∙◌, subst}
 use lib.ListN.{length}
 use Rattle.sizes.specs.Size.{count}
 use Rattle.sizes.proofs.Sizes.{bounds}
 use Rattle.c_bank.specs.Bank.{series, mixed_row_in}
-use Rattle.c_bank.proofs.Serials.{Serial, serial_none, serial_room, serial_place, serial_more, serial_all}
+use Rattle.c_bank.proofs.Serials.{serial_none, serial_room, serial_place, serial_more, serial_all}
 use Rattle.c_bank.proofs.Rowing.{row_is, length-mixed}
-use borrow.Author.Rules.{rules}
 use Rattle.c_bank.proofs.mix_row.Lts as lts
 use Rattle.c_bank.proofs.mix_row.Tie as tie
 use Rattle.c_bank.proofs.mix_row.Reads as reads

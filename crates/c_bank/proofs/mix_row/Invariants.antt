@@ -1,14 +1,8 @@
 -- What the loop of `mix_row` keeps.
-use Prim.Native.Nat.{ℕ, ◌-◌, ◌≤◌, ◌<◌, ◌+◌, ◌*◌}
-use native.Mathlib.Omega.{arith}
-use mathlib.Core.Path.{◌≡◌, sym, ap, ◌∙◌, subst}
-use lib.ListN.{length}
+use Prim.Native.Nat.{◌-◌, ◌<◌}
 use Rattle.sizes.specs.Size.{count}
-use Rattle.sizes.proofs.Sizes.{bounds}
-use Rattle.c_bank.specs.Bank.{series, mixed_row_in}
-use Rattle.c_bank.proofs.Serials.{Serial, serial_none, serial_room, serial_place, serial_more, serial_all}
-use Rattle.c_bank.proofs.Rowing.{row_is, length-mixed}
-use borrow.Author.Rules.{rules}
+use Rattle.c_bank.specs.Bank.{mixed_row_in}
+use Rattle.c_bank.proofs.Serials.{Serial}
 use Rattle.c_bank.proofs.mix_row.Given as goal
 
 abbrev pub invariant-loop-j : goal.invariant-loop-j

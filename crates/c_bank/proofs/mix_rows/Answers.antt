@@ -18,7 +18,6 @@ use Rattle.steps.proofs.Sizes.{well_sized_lem}
 use Rattle.c_bank.specs.Bank.{bank_at, transition_at, with_bank}
 use Rattle.c_bank.proofs.Banks.{Whole, whole_of}
 use Rattle.c_bank.proofs.MixCalls.{mixes, Rooms, rooms_of}
-use borrow.Author.Rules.{rules}
 use Rattle.c_bank.proofs.mix_rows.Lts as lts
 use Rattle.c_bank.proofs.mix_rows.Tie as tie
 use Rattle.c_bank.proofs.mix_rows.Reads as reads

@@ -8,7 +8,6 @@ use Rattle.algebra.specs.Matrix.{at}
 use Rattle.sizes.specs.Size.{count}
 use Rattle.sizes.proofs.Sizes.{bounds, exactly, is_one, is_four}
 use Rattle.c_bank.proofs.Spaced.{reaches, spaced-one, spaced-two, spaced-three, spaced-four}
-use borrow.Author.Rules.{rules}
 use Rattle.c_bank.proofs.numbers_at.Lts as lts
 use Rattle.c_bank.proofs.numbers_at.Tie as tie
 use Rattle.c_bank.proofs.numbers_at.Reads as reads

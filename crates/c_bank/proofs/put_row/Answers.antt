@@ -4,7 +4,6 @@ use lib.ListN.{length-set}
 use Rattle.sizes.proofs.Sizes.{bounds, exactly, is_one, is_four}
 use Rattle.layout.proofs.Loops.{written, write_one, write_two, write_three}
 use Rattle.c_bank.proofs.Spaced.{write_back}
-use borrow.Author.Rules.{rules}
 use Rattle.c_bank.proofs.put_row.Goals as goal
 
 pub returns-then-numbers-lt2 : goal.returns-then-numbers-lt2

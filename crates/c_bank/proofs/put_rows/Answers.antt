@@ -5,9 +5,9 @@ use mathlib.Core.Path.{refl, sym, subst}
 use lib.ListN.{length}
 use Rattle.algebra.specs.Matrix.{row}
 use Rattle.algebra.proofs.Arrays.{length_cut}
-use Rattle.sizes.specs.Size.{count, front}
+use Rattle.sizes.specs.Size.{count}
 use Rattle.sizes.proofs.Sizes.{bounds}
-use Rattle.c_bank.proofs.Serials.{Serial, serial_none, serial_room, serial_place, serial_more, serial_all}
+use Rattle.c_bank.proofs.Serials.{serial_none, serial_room, serial_place, serial_more, serial_all}
 use Rattle.c_bank.proofs.put_rows.Goals as goal
 
 pub loop-j-init : goal.loop-j-init

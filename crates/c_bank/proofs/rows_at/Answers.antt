@@ -7,7 +7,6 @@ use Rattle.sizes.specs.Size.{count}
 use Rattle.sizes.proofs.Sizes.{bounds, exactly, is_one, is_four}
 use Rattle.layout.specs.Layout.{vector_at}
 use Rattle.c_bank.proofs.Spaced.{reaches, spaced-one, spaced-two, spaced-three, spaced-four}
-use borrow.Author.Rules.{rules}
 use Rattle.c_bank.proofs.rows_at.Lts as lts
 use Rattle.c_bank.proofs.rows_at.Tie as tie
 use Rattle.c_bank.proofs.rows_at.Reads as reads

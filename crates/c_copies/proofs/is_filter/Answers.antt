@@ -3,7 +3,6 @@ use native.Mathlib.Omega.{arith}
 use mathlib.Core.Path.{◌≡◌, refl, sym, ◌∙◌}
 use mathlib.Core.Bool.{true}
 use Rattle.steps.specs.Step.{well_sized}
-use borrow.Author.Rules.{rules}
 use Rattle.c_copies.proofs.Filters.{Few, few_of, filter-tested, filter-unsized}
 use Rattle.c_copies.proofs.is_filter.Lts as lts
 use Rattle.c_copies.proofs.is_filter.Tie as tie

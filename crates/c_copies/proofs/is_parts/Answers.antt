@@ -5,7 +5,6 @@ use mathlib.Core.Bool.{◌&&◌}
 use lib.Dec.{eqb}
 use Prim.Native.Nat.{◌*◌}
 use Rattle.c_copies.specs.Filter.{is_parts}
-use borrow.Author.Rules.{rules}
 use Rattle.c_copies.proofs.Filters.{Few, whole_of, and_tested, and_failed}
 use Rattle.c_copies.proofs.is_parts.Lts as lts
 use Rattle.c_copies.proofs.is_parts.Tie as tie

@@ -1,6 +1,5 @@
 -- `is_step` meets its contract.
 use Rattle.c_copies.specs.Filter.{is_step}
-use borrow.Author.Rules.{rules}
 use Rattle.c_copies.proofs.is_step.Goals as goal
 
 pub returns : goal.returns

@@ -11,7 +11,6 @@ use borrow.Author.Tests.{eq-eqb, ne_eqb}
 use Rattle.answer.specs.Told.{given}
 use Rattle.answer.specs.Answer.{where_sized}
 use Rattle.c_copies.specs.Filter.{estimate_place, is_filter, is_step}
-use borrow.Author.Rules.{rules}
 use Rattle.c_copies.proofs.Filters.{Whole, whole_of, and_tested, and_failed, copied}
 use Rattle.c_copies.proofs.kalman_covariance.Lts as lts
 use Rattle.c_copies.proofs.kalman_covariance.Tie as tie

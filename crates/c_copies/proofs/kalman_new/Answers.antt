@@ -2,13 +2,12 @@
 use native.Mathlib.Omega.{arith}
 use mathlib.Core.Path.{refl, sym, ap, ◌∙◌}
 use mathlib.Core.Bool.{Bool}
-use mathlib.Core.List.{[], ◌∷◌}
+use mathlib.Core.List.{◌∷◌}
 use lib.ListN.{length}
 use Rattle.answer.specs.Told.{given}
 use Rattle.answer.specs.Answer.{where_sized}
 use Rattle.layout.specs.Layout.{joined}
 use Rattle.layout.proofs.Places.{placed-none}
-use borrow.Author.Rules.{rules}
 use Rattle.c_copies.proofs.Filters.{Given, given_of, put_next, put_all}
 use Rattle.c_copies.proofs.kalman_new.Lts as lts
 use Rattle.c_copies.proofs.kalman_new.Tie as tie

@@ -14,7 +14,6 @@ use Rattle.layout.specs.Layout.{placed}
 use Rattle.layout.proofs.Places.{then-placed}
 use Rattle.layout.proofs.Calls.{slice-put}
 use Rattle.c_copies.specs.Filter.{estimate_place, is_step, is_step_with}
-use borrow.Author.Rules.{rules}
 use Rattle.c_copies.proofs.Filters.{Step, step_of, and_tested, and_failed}
 use Rattle.c_copies.proofs.kalman_reset.Lts as lts
 use Rattle.c_copies.proofs.kalman_reset.Tie as tie

@@ -9,7 +9,6 @@ use lib.Ieee.{Float}
 use Rattle.answer.specs.Told.{given}
 use Rattle.answer.specs.Answer.{where_sized}
 use Rattle.c_copies.specs.Filter.{estimate_place}
-use borrow.Author.Rules.{rules}
 use Rattle.c_copies.proofs.Filters.{Step, step_of, copied}
 use Rattle.c_copies.proofs.kalman_state.Lts as lts
 use Rattle.c_copies.proofs.kalman_state.Tie as tie

@@ -3,7 +3,6 @@ use native.Mathlib.Omega.{arith}
 use mathlib.Core.Path.{sym, ◌∙◌}
 use lib.ListN.{length}
 use Rattle.c_copies.specs.Filter.{predict_in}
-use borrow.Author.Rules.{rules}
 use Rattle.c_roads.proofs.Roads.{Road, road_of, road_read, pair_put, predicts}
 use Rattle.c_roads.proofs.Planes.{plane_of}
 use Rattle.c_filters.proofs.kalman_predict.Lts as lts

@@ -9,7 +9,6 @@ use Rattle.answer.proofs.Choice.{and_left, and_right}
 use Rattle.road.specs.Road.{estimate_of}
 use Rattle.road.proofs.Roads.{corrected_by_lem}
 use Rattle.c_copies.specs.Filter.{is_road, update_in}
-use borrow.Author.Rules.{rules}
 use Rattle.c_roads.proofs.Roads.{Road, road_of, road_read, pair_put, updates, refuses}
 use Rattle.c_roads.proofs.Planes.{plane_of}
 use Rattle.c_filters.proofs.kalman_update.Lts as lts

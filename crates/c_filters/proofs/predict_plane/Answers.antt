@@ -8,7 +8,6 @@ use lib.Ieee.{Float}
 use Rattle.answer.specs.Outcome.{if_fitting}
 use Rattle.filtering.specs.Linear.{predict}
 use Rattle.c_copies.specs.Filter.{is_step, motion_at, estimate_at, predicted_in}
-use borrow.Author.Rules.{rules}
 use Rattle.c_copies.proofs.Filters.{step_of}
 use Rattle.c_copies.proofs.Steps.{predicts}
 use Rattle.c_filters.proofs.predict_plane.Goals as goal

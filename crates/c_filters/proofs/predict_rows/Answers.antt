@@ -9,7 +9,6 @@ use lib.Ieee.{Float}
 use Rattle.answer.specs.Outcome.{if_fitting}
 use Rattle.filtering.specs.Linear.{predict}
 use Rattle.c_copies.specs.Filter.{motion_at, estimate_at, predicted_in}
-use borrow.Author.Rules.{rules}
 use Rattle.c_copies.proofs.Filters.{Step, step_of, place_is, place-small}
 use Rattle.c_copies.proofs.Steps.{predicts}
 use Rattle.c_filters.proofs.predict_rows.Lts as lts

@@ -12,7 +12,6 @@ use Rattle.answer.proofs.Choice.{and_left, and_right}
 use Rattle.answer.specs.Outcome.{if_fitting}
 use Rattle.filtering.specs.Linear.{update}
 use Rattle.c_copies.specs.Filter.{is_step, is_step_with, sensor_at, estimate_at, outcome_in}
-use borrow.Author.Rules.{rules}
 use Rattle.c_copies.proofs.Filters.{Step, step_of, place_is, place-small}
 use Rattle.c_copies.proofs.Steps.{updates, refuses}
 use Rattle.c_filters.proofs.update_rows.Lts as lts

@@ -1,6 +1,6 @@
 -- `are_sensors` meets its contract: the filter, and the slice by division.
 use native.Mathlib.Omega.{arith}
-use mathlib.Core.Path.{◌≡◌, sym, ap, ◌∙◌}
+use mathlib.Core.Path.{sym, ap, ◌∙◌}
 use Prim.Native.Nat.{ℕ, ◌*◌, ◌<◌}
 use lib.Dec.{eqb}
 use Rattle.sizes.proofs.Sizes.{bounds_of}
@@ -8,7 +8,6 @@ use Rattle.steps.proofs.Sizes.{well_sized_lem}
 use Rattle.c_copies.specs.Filter.{is_step}
 use Rattle.c_copies.proofs.Filters.{Whole, whole_of, and_tested, and_failed}
 use Rattle.c_fusion.proofs.Fusions.{divided}
-use borrow.Author.Rules.{rules}
 use Rattle.c_fusion.proofs.are_sensors.Lts as lts
 use Rattle.c_fusion.proofs.are_sensors.Tie as tie
 use Rattle.c_fusion.proofs.are_sensors.Reads as reads

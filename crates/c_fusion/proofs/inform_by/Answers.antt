@@ -1,12 +1,11 @@
 -- `inform_by` meets its contract: the sensor's parts, and the step by them.
 use native.Mathlib.Omega.{arith}
-use mathlib.Core.Path.{◌≡◌, ◌∙◌}
+use mathlib.Core.Path.{◌∙◌}
 use Rattle.sizes.specs.Size.{count}
 use Rattle.sizes.proofs.Sizes.{bounds}
 use Rattle.filtering.specs.Information.{informed, fuse}
 use Rattle.information_steps.specs.Step.{information_rows, arrays_of}
 use Rattle.c_fusion.proofs.Fusions.{Places, places, sensor-read, noise-read, measured-read}
-use borrow.Author.Rules.{rules}
 use Rattle.c_fusion.proofs.inform_by.Lts as lts
 use Rattle.c_fusion.proofs.inform_by.Tie as tie
 use Rattle.c_fusion.proofs.inform_by.Reads as reads

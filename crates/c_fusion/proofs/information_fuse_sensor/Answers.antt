@@ -1,9 +1,9 @@
 -- `information_fuse_sensor` meets its contract: by the test of the slices.
 use native.Mathlib.Omega.{arith}
-use mathlib.Core.Path.{◌≡◌, refl, sym, ap, ◌∙◌}
+use mathlib.Core.Path.{◌≡◌, sym, ap, ◌∙◌}
 use mathlib.Core.Bool.{Bool}
 use lib.ListN.{length}
-use mathlib.Core.Bool.{true, ◌&&◌}
+use mathlib.Core.Bool.{true}
 use mathlib.Core.List.{List}
 use Prim.Native.Nat.{ℕ, ◌*◌}
 use lib.Dec.{eqb}
@@ -16,7 +16,6 @@ use Rattle.c_copies.proofs.Filters.{Step, step_of}
 use Rattle.c_information.specs.Information.{information_at, stepped_in}
 use Rattle.c_fusion.specs.Fusion.{is_sensor, fused_at}
 use Rattle.c_fusion.proofs.Sensors.{fuses}
-use borrow.Author.Rules.{rules}
 use Rattle.c_fusion.proofs.information_fuse_sensor.Lts as lts
 use Rattle.c_fusion.proofs.information_fuse_sensor.Tie as tie
 use Rattle.c_fusion.proofs.information_fuse_sensor.Reads as reads

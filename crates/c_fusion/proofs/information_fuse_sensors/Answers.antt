@@ -11,8 +11,7 @@ use Rattle.c_copies.specs.Filter.{is_step}
 use Rattle.c_copies.proofs.Filters.{Step, step_of}
 use Rattle.c_information.specs.Information.{information_at, stepped_in}
 use Rattle.c_fusion.specs.Fusion.{reading_length, fused_all_at}
-use Rattle.c_fusion.proofs.Fusions.{Fusing, fusing-begun, fusing-room, fusing-more, fusing-ended}
-use borrow.Author.Rules.{rules}
+use Rattle.c_fusion.proofs.Fusions.{fusing-begun, fusing-room, fusing-more, fusing-ended}
 use Rattle.c_fusion.proofs.information_fuse_sensors.Lts as lts
 use Rattle.c_fusion.proofs.information_fuse_sensors.Tie as tie
 use Rattle.c_fusion.proofs.information_fuse_sensors.Reads as reads

@@ -1,15 +1,9 @@
 -- `is_sensor` meets its contract: the filter, and each slice.
 use native.Mathlib.Omega.{arith}
-use mathlib.Core.Path.{◌≡◌, refl, sym, ap, ◌∙◌}
-use mathlib.Core.Bool.{Bool}
-use lib.ListN.{length}
-use mathlib.Core.Bool.{◌&&◌}
-use lib.Dec.{eqb}
-use Prim.Native.Nat.{◌*◌}
+use mathlib.Core.Path.{sym, ◌∙◌}
 use Rattle.c_copies.specs.Filter.{is_step}
 use Rattle.c_copies.proofs.Filters.{Few, step_of, and_tested, and_failed}
 use Rattle.c_fusion.specs.Fusion.{is_sensor}
-use borrow.Author.Rules.{rules}
 use Rattle.c_fusion.proofs.is_sensor.Lts as lts
 use Rattle.c_fusion.proofs.is_sensor.Tie as tie
 use Rattle.c_fusion.proofs.is_sensor.Reads as reads

@@ -1,5 +1,5 @@
 -- `imm_mix_estimates` meets its contract: two models of one road by themselves, and any others as rows.
-use mathlib.Core.Path.{◌≡◌, sym, ap, ◌∙◌}
+use mathlib.Core.Path.{sym, ap, ◌∙◌}
 use mathlib.Core.Bool.{Bool}
 use mathlib.Core.List.{List}
 use Prim.Native.Nat.{ℕ}
@@ -10,7 +10,6 @@ use Rattle.answer.specs.Outcome.{into, handed}
 use Rattle.answer.specs.Told.{number_of}
 use Rattle.c_bank.specs.Bank.{with_bank, mixed_in}
 use Rattle.c_imm.proofs.Roads.{Road, road_of, road_long}
-use borrow.Author.Rules.{rules}
 use Rattle.c_imm.proofs.imm_mix_estimates.Lts as lts
 use Rattle.c_imm.proofs.imm_mix_estimates.Tie as tie
 use Rattle.c_imm.proofs.imm_mix_estimates.Reads as reads

@@ -1,8 +1,8 @@
 -- `imm_new` meets its contract: one part after another, and the probabilities.
 use native.Mathlib.Omega.{arith}
-use mathlib.Core.Path.{◌≡◌, refl, sym, ap, ◌∙◌}
+use mathlib.Core.Path.{refl, sym, ap, ◌∙◌}
 use mathlib.Core.Bool.{Bool}
-use mathlib.Core.List.{List, [], ◌∷◌}
+use mathlib.Core.List.{List, ◌∷◌}
 use Prim.Native.Nat.{ℕ}
 use lib.ListN.{length}
 use lib.Ieee.{Float}
@@ -13,7 +13,6 @@ use Rattle.mixing.specs.Mixing.{uniform}
 use Rattle.layout.specs.Layout.{joined}
 use Rattle.layout.proofs.Places.{placed-none}
 use Rattle.steps.proofs.Sizes.{well_sized_lem}
-use borrow.Author.Rules.{rules}
 use Rattle.c_bank.proofs.Puts.{Given, given_of, put_next, put_last, put_all, uniform-put}
 use Rattle.c_imm.proofs.imm_new.Lts as lts
 use Rattle.c_imm.proofs.imm_new.Tie as tie

@@ -7,7 +7,6 @@ use lib.Dec.{eqb}
 use Rattle.layout.specs.Layout.{model_length}
 use Rattle.c_bank.specs.Bank.{is_bank, is_parts}
 use Rattle.c_bank.proofs.Banks.{Whole, whole_of, and_tested, and_failed}
-use borrow.Author.Rules.{rules}
 use Rattle.c_imm.proofs.is_parts.Lts as lts
 use Rattle.c_imm.proofs.is_parts.Tie as tie
 use Rattle.c_imm.proofs.is_parts.Reads as reads

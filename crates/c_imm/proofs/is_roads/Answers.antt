@@ -1,6 +1,5 @@
 -- `is_roads` meets its contract.
 use Rattle.c_bank.specs.Bank.{is_roads}
-use borrow.Author.Rules.{rules}
 use Rattle.c_imm.proofs.is_roads.Goals as goal
 
 pub returns : goal.returns

@@ -1,6 +1,5 @@
 -- `mix_roads` meets its contract: the numbers of both models where they stand, mixed and put back.
 use native.Mathlib.Omega.{arith}
-use borrow.Author.Rules.{rules}
 use Rattle.c_imm.proofs.Roads.{roads_put}
 use Rattle.c_imm.proofs.mix_roads.Goals as goal
 

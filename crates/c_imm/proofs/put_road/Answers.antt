@@ -1,7 +1,5 @@
 -- `put_road` meets its contract: six numbers are copied.
-use native.Mathlib.Omega.{arith}
-use mathlib.Core.List.{[], ◌∷◌}
-use borrow.Author.Rules.{rules}
+use mathlib.Core.List.{◌∷◌}
 use Rattle.layout.proofs.Calls.{slice-put}
 use Rattle.c_imm.proofs.put_road.Goals as goal
 

@@ -1,9 +1,8 @@
 -- `information_covariance` meets its contract: by the tests of the slices, and by the status.
 use native.Mathlib.Omega.{arith}
-use mathlib.Core.Path.{◌≡◌, refl, sym, ap, ◌∙◌}
+use mathlib.Core.Path.{refl, sym, ap, ◌∙◌}
 use mathlib.Core.Bool.{Bool}
 use lib.ListN.{length}
-use mathlib.Core.Bool.{◌&&◌}
 use mathlib.Core.List.{List}
 use Prim.Native.Nat.{ℕ, ◌*◌}
 use lib.Dec.{eqb}
@@ -23,7 +22,6 @@ use Rattle.c_copies.specs.Filter.{is_filter, is_step}
 use Rattle.c_copies.proofs.Filters.{Whole, whole_of, and_tested, and_failed}
 use Rattle.c_information.specs.Information.{information_at}
 use Rattle.c_information.proofs.Calls.{matrix-written, matrix-refused}
-use borrow.Author.Rules.{rules}
 use Rattle.c_information.proofs.information_covariance.Lts as lts
 use Rattle.c_information.proofs.information_covariance.Tie as tie
 use Rattle.c_information.proofs.information_covariance.Reads as reads

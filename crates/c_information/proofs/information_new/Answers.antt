@@ -1,9 +1,9 @@
 -- `information_new` meets its contract: by the test of the slices, and by the status of what is made of the estimate.
 use native.Mathlib.Omega.{arith}
-use mathlib.Core.Path.{◌≡◌, refl, sym, ap, ◌∙◌}
+use mathlib.Core.Path.{sym, ap, ◌∙◌}
 use mathlib.Core.Bool.{Bool}
 use lib.ListN.{length}
-use mathlib.Core.List.{[], ◌∷◌}
+use mathlib.Core.List.{◌∷◌}
 use Rattle.answer.specs.Answer.{Answer, mapped, if_sized, where_sized}
 use Rattle.answer.specs.Outcome.{into, handed}
 use Rattle.answer.specs.Told.{status_of, given}
@@ -16,7 +16,6 @@ use Rattle.information_steps.specs.Step.{arrays_of}
 use Rattle.c_copies.proofs.Filters.{Given, given_of}
 use Rattle.c_information.specs.Information.{with_information, of_estimate_at}
 use Rattle.c_information.proofs.Calls.{estimate-given, new-made, new-refused}
-use borrow.Author.Rules.{rules}
 use Rattle.c_information.proofs.information_new.Lts as lts
 use Rattle.c_information.proofs.information_new.Tie as tie
 use Rattle.c_information.proofs.information_new.Reads as reads

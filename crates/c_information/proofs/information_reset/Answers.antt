@@ -1,10 +1,9 @@
 -- `information_reset` meets its contract: by the tests of the slices, and by the status.
 use native.Mathlib.Omega.{arith}
-use mathlib.Core.Path.{◌≡◌, refl, sym, ap, ◌∙◌}
+use mathlib.Core.Path.{refl, sym, ap, ◌∙◌}
 use mathlib.Core.Bool.{Bool}
 use lib.ListN.{length}
-use mathlib.Core.Bool.{◌&&◌}
-use mathlib.Core.List.{List, []}
+use mathlib.Core.List.{List}
 use Prim.Native.Nat.{ℕ, ◌*◌}
 use lib.Dec.{eqb}
 use lib.Ieee.{Float}
@@ -22,7 +21,6 @@ use Rattle.c_copies.specs.Filter.{is_step, is_step_with}
 use Rattle.c_copies.proofs.Filters.{Step, step_of, and_tested, and_failed}
 use Rattle.c_information.specs.Information.{of_estimate_at, stepped_in}
 use Rattle.c_information.proofs.Calls.{place, estimate-given, stepped, stopped}
-use borrow.Author.Rules.{rules}
 use Rattle.c_information.proofs.information_reset.Lts as lts
 use Rattle.c_information.proofs.information_reset.Tie as tie
 use Rattle.c_information.proofs.information_reset.Reads as reads

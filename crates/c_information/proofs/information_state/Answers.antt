@@ -1,6 +1,6 @@
 -- `information_state` meets its contract: by the test of the slices, and by the status.
 use native.Mathlib.Omega.{arith}
-use mathlib.Core.Path.{◌≡◌, refl, sym, ap, ◌∙◌}
+use mathlib.Core.Path.{refl, sym, ap, ◌∙◌}
 use mathlib.Core.Bool.{Bool}
 use lib.ListN.{length}
 use mathlib.Core.List.{List}
@@ -16,7 +16,6 @@ use Rattle.information_steps.proofs.Ways.{length-state}
 use Rattle.c_copies.proofs.Filters.{Step, step_of}
 use Rattle.c_information.specs.Information.{information_at}
 use Rattle.c_information.proofs.Calls.{place, information-read, vector-written, vector-refused}
-use borrow.Author.Rules.{rules}
 use Rattle.c_information.proofs.information_state.Lts as lts
 use Rattle.c_information.proofs.information_state.Tie as tie
 use Rattle.c_information.proofs.information_state.Reads as reads

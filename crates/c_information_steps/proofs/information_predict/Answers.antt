@@ -1,8 +1,7 @@
 -- `information_predict` meets its contract: one road by its numbers, a plane with its sizes at hand, and else rows.
 use native.Mathlib.Omega.{arith}
-use mathlib.Core.Path.{◌≡◌, sym, ◌∙◌}
+use mathlib.Core.Path.{sym, ◌∙◌}
 use lib.ListN.{length}
-use borrow.Author.Rules.{rules}
 use Rattle.c_roads.proofs.Roads.{Road, road_of, road_read, pair_put}
 use Rattle.c_roads.proofs.Planes.{plane_of}
 use Rattle.c_information_steps.specs.Steps.{predict_in}

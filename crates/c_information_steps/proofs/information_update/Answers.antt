@@ -5,7 +5,6 @@ use mathlib.Core.Bool.{Bool, true, ◌&&◌}
 use lib.Dec.{eqb}
 use lib.ListN.{length}
 use borrow.Author.Tests.{eqb-true}
-use borrow.Author.Rules.{rules}
 use Rattle.answer.proofs.Choice.{and_left, and_right}
 use Rattle.matrix.proofs.Results.{answered-value, refused-number}
 use Rattle.small_inverse.specs.Two.{inv_number}

@@ -16,7 +16,6 @@ use Rattle.c_copies.proofs.Filters.{Step, step_of}
 use Rattle.c_copies.proofs.Steps.{motion-read, vector-given}
 use Rattle.c_information.specs.Information.{information_at, stepped_in}
 use Rattle.c_information.proofs.Calls.{information-read, stepped, stopped}
-use borrow.Author.Rules.{rules}
 use Rattle.c_information_steps.proofs.predict_plane.Lts as lts
 use Rattle.c_information_steps.proofs.predict_plane.Tie as tie
 use Rattle.c_information_steps.proofs.predict_plane.Reads as reads

@@ -1,6 +1,6 @@
 -- `predict_rows` meets its contract: by the test of the slice, and by the status.
 use native.Mathlib.Omega.{arith}
-use mathlib.Core.Path.{◌≡◌, refl, sym, ap, ◌∙◌}
+use mathlib.Core.Path.{refl, sym, ap, ◌∙◌}
 use mathlib.Core.Bool.{Bool}
 use lib.ListN.{length}
 use mathlib.Core.List.{List}
@@ -16,7 +16,6 @@ use Rattle.c_copies.proofs.Filters.{Step, step_of}
 use Rattle.c_copies.proofs.Steps.{is_i, motion-read, vector-given}
 use Rattle.c_information.specs.Information.{information_at, stepped_in}
 use Rattle.c_information.proofs.Calls.{place, information-read, stepped, stopped}
-use borrow.Author.Rules.{rules}
 use Rattle.c_information_steps.proofs.predict_rows.Lts as lts
 use Rattle.c_information_steps.proofs.predict_rows.Tie as tie
 use Rattle.c_information_steps.proofs.predict_rows.Reads as reads

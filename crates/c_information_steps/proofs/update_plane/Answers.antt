@@ -20,7 +20,6 @@ use Rattle.c_copies.proofs.Filters.{Step, step_of}
 use Rattle.c_information.specs.Information.{information_at}
 use Rattle.c_information_steps.specs.Steps.{outcome_in}
 use Rattle.c_information_steps.proofs.Updates.{noise-inverted, noise-rejected, update-read, updates, refuses, not_updated}
-use borrow.Author.Rules.{rules}
 use Rattle.c_information_steps.proofs.update_plane.Lts as lts
 use Rattle.c_information_steps.proofs.update_plane.Tie as tie
 use Rattle.c_information_steps.proofs.update_plane.Reads as reads

@@ -1,6 +1,6 @@
 -- `update_rows` meets its contract: by the test of the slices, by what the inversion of the noise answers, and by what is told.
 use native.Mathlib.Omega.{arith}
-use mathlib.Core.Path.{◌≡◌, refl, sym, ap, ◌∙◌}
+use mathlib.Core.Path.{◌≡◌, sym, ap, ◌∙◌}
 use mathlib.Core.Bool.{Bool}
 use lib.ListN.{length}
 use mathlib.Core.Bool.{true, ◌&&◌}
@@ -21,7 +21,6 @@ use Rattle.c_information.specs.Information.{information_at}
 use Rattle.c_information.proofs.Calls.{place}
 use Rattle.c_information_steps.specs.Steps.{outcome_in}
 use Rattle.c_information_steps.proofs.Updates.{noise-inverted, noise-rejected, update-read, updates, refuses, not_updated}
-use borrow.Author.Rules.{rules}
 use Rattle.c_information_steps.proofs.update_rows.Lts as lts
 use Rattle.c_information_steps.proofs.update_rows.Tie as tie
 use Rattle.c_information_steps.proofs.update_rows.Reads as reads

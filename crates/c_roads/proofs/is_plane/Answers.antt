@@ -1,6 +1,5 @@
 -- `is_plane` meets its contract.
 use Rattle.c_roads.specs.Plane.{is_plane}
-use borrow.Author.Rules.{rules}
 use Rattle.c_roads.proofs.is_plane.Goals as goal
 
 pub returns : goal.returns

@@ -1,6 +1,5 @@
 -- `is_road` meets its contract.
 use Rattle.c_copies.specs.Filter.{is_road}
-use borrow.Author.Rules.{rules}
 use Rattle.c_roads.proofs.is_road.Goals as goal
 
 pub returns : goal.returns

@@ -13,7 +13,6 @@ use Rattle.layout.proofs.Places.{placed-whole}
 use Rattle.layout.proofs.Calls.{slice-put}
 use Rattle.road.specs.Road.{tracker_of}
 use Rattle.c_copies.specs.Filter.{filter_numbers}
-use borrow.Author.Rules.{rules}
 use Rattle.c_roads.proofs.kalman_position_velocity.Goals as goal
 
 long : (t q r : Float) → length (filter_numbers (tracker_of t q r)) ≡ 19

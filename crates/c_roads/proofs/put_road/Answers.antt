@@ -1,5 +1,4 @@
 -- `put_road` meets its contract: six numbers are copied.
-use borrow.Author.Rules.{rules}
 use Rattle.c_roads.proofs.put_road.Goals as goal
 
 pub returns : goal.returns

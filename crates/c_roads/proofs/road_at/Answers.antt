@@ -1,9 +1,8 @@
 -- `road_at` meets its contract: by the slice's length.
-use mathlib.Core.Path.{◌≡◌, sym, ap, ◌∙◌}
+use mathlib.Core.Path.{sym, ap, ◌∙◌}
 use mathlib.Core.Bool.{Bool, cond}
 use mathlib.Core.List.{List}
 use lib.Ieee.{Float}
-use borrow.Author.Rules.{rules}
 use borrow.Author.Tests.{eq-eqb, ne_eqb}
 use Rattle.scalar.specs.Number.{+0}
 use Rattle.road.specs.Road.{Filter, tracker_of}

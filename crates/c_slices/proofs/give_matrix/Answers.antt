@@ -7,7 +7,7 @@ use Rattle.answer.specs.Told.{given}
 use Rattle.algebra.specs.Array.{used}
 use Rattle.layout.specs.Layout.{joined}
 use Rattle.c_slices.specs.Told.{told_as}
-use Rattle.c_slices.proofs.Ways.{whole_of, rows_at, cols_at, matrix-out, none}
+use Rattle.c_slices.proofs.Ways.{whole_of, rows_at, cols_at, matrix-out}
 use Rattle.c_slices.proofs.give_matrix.Goals as goal
 
 pub returns-in-Done : goal.returns-in-Done

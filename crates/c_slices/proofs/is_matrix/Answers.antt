@@ -8,7 +8,6 @@ use lib.Dec.{eqb}
 use Rattle.sizes.specs.Size.{shaped}
 use Rattle.sizes.proofs.Sizes.{sizes_of, bounds_of}
 use Rattle.c_slices.specs.Slices.{is_matrix}
-use Rattle.c_slices.proofs.Ways.{none}
 use Rattle.c_slices.proofs.is_matrix.Goals as goal
 
 few : (r c : ℕ) → shaped r c ≡ true → r * c ≤ 16

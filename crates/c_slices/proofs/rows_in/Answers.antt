@@ -1,7 +1,7 @@
 -- `rows_in` meets its contract.
 use mathlib.Core.Path.{sym, ◌∙◌}
 use Rattle.algebra.specs.Array.{used}
-use Rattle.c_slices.proofs.Ways.{whole_of, rows_at, cols_at, matrix_in_lem, none}
+use Rattle.c_slices.proofs.Ways.{whole_of, rows_at, cols_at, matrix_in_lem}
 use Rattle.c_slices.proofs.rows_in.Goals as goal
 
 pub returns : goal.returns

@@ -4,7 +4,6 @@ use mathlib.Core.Path.{sym, ◌∙◌}
 use Prim.Native.Nat.{◌*◌, ◌≤◌}
 use Rattle.sizes.proofs.Sizes.{bounds_of}
 use Rattle.duty.proofs.Sizes.{square-small}
-use borrow.Author.Rules.{rules}
 use native.Mathlib.Nat.{mul-le-mul_right}
 use Prim.Native.Nat.{◌+◌}
 use Rattle.c_smoothers.proofs.Calls.{pairs-tested, pairs-unsized}

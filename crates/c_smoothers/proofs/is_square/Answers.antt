@@ -4,7 +4,6 @@ use mathlib.Core.Path.{sym, ◌∙◌}
 use Prim.Native.Nat.{◌*◌, ◌≤◌}
 use Rattle.sizes.proofs.Sizes.{bounds_of}
 use Rattle.duty.proofs.Sizes.{square-small}
-use borrow.Author.Rules.{rules}
 use Rattle.c_smoothers.proofs.Calls.{square-tested, square-unsized}
 use Rattle.c_smoothers.proofs.is_square.Lts as lts
 use Rattle.c_smoothers.proofs.is_square.Tie as tie

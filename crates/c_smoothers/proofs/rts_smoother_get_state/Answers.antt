@@ -1,10 +1,8 @@
 -- `rts_smoother_get_state` meets its contract: a copy of a part.
 use native.Mathlib.Omega.{arith}
-use mathlib.Core.Path.{◌≡◌, refl, sym, ap, ◌∙◌}
-use mathlib.Core.List.{List}
+use mathlib.Core.Path.{◌≡◌, refl, sym, ◌∙◌}
 use lib.ListN.{length}
 use borrow.Author.Tests.{lt-leb, le-leb}
-use borrow.Author.Rules.{rules}
 use Rattle.c_smoothers.proofs.Calls.{readable, Reading, reading_of, slot_by, slot-copied}
 use Rattle.c_smoothers.proofs.rts_smoother_get_state.Lts as lts
 use Rattle.c_smoothers.proofs.rts_smoother_get_state.Tie as tie

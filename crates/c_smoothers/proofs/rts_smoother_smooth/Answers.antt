@@ -1,12 +1,7 @@
 -- `rts_smoother_smooth` meets its contract: the rows of the transition, and the pass.
-use mathlib.Core.Path.{◌≡◌, refl, sym, ap, ◌∙◌}
-use mathlib.Core.Bool.{Bool, true, ◌&&◌}
-use mathlib.Core.List.{List}
-use Prim.Native.Nat.{ℕ}
-use lib.ListN.{length}
-use lib.Ieee.{Float}
-use borrow.Author.Rules.{rules}
-use Rattle.c_smoothers.proofs.Calls.{square_of, smooth_by, smooth-passed}
+use mathlib.Core.Path.{sym, ◌∙◌}
+use mathlib.Core.Bool.{true}
+use Rattle.c_smoothers.proofs.Calls.{smooth_by, smooth-passed}
 use Rattle.c_smoothers.proofs.rts_smoother_smooth.Goals as goal
 
 pub returns-then-is_square : goal.returns-then-is_square

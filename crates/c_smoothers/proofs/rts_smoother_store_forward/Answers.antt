@@ -1,13 +1,10 @@
 -- `rts_smoother_store_forward` meets its contract: two copies, one behind the other.
 use native.Mathlib.Omega.{arith}
-use mathlib.Core.Path.{◌≡◌, refl, sym, ap, ◌∙◌}
-use mathlib.Core.List.{List}
-use mathlib.Core.Bool.{Bool, true, ◌&&◌}
-use Prim.Native.Nat.{ℕ, ◌+◌}
+use mathlib.Core.Path.{◌≡◌, refl, sym, ◌∙◌}
+use mathlib.Core.Bool.{true}
+use Prim.Native.Nat.{◌+◌}
 use lib.ListN.{length}
-use lib.Ieee.{Float}
 use borrow.Author.Tests.{lt-leb, le-leb}
-use borrow.Author.Rules.{rules}
 use Rattle.c_smoothers.proofs.Calls.{storable, Storing, storing_of, store_by, stored_is}
 use Rattle.c_smoothers.proofs.rts_smoother_store_forward.Lts as lts
 use Rattle.c_smoothers.proofs.rts_smoother_store_forward.Tie as tie

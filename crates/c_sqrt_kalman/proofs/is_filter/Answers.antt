@@ -3,7 +3,6 @@ use native.Mathlib.Omega.{arith}
 use mathlib.Core.Path.{◌≡◌, refl, sym, ◌∙◌}
 use mathlib.Core.Bool.{true}
 use Rattle.steps.specs.Step.{well_sized}
-use borrow.Author.Rules.{rules}
 use Rattle.c_copies.proofs.Filters.{Few, few_of}
 use Rattle.c_sqrt_kalman.proofs.Filters.{filter-tested, filter-unsized}
 use Rattle.c_sqrt_kalman.proofs.is_filter.Lts as lts

@@ -5,7 +5,6 @@ use mathlib.Core.Bool.{◌&&◌}
 use lib.Dec.{eqb}
 use Prim.Native.Nat.{◌*◌}
 use Rattle.c_sqrt_kalman.specs.Root.{is_parts}
-use borrow.Author.Rules.{rules}
 use Rattle.c_copies.proofs.Filters.{Few, and_tested, and_failed}
 use Rattle.c_sqrt_kalman.proofs.Filters.{whole_of}
 use Rattle.c_sqrt_kalman.proofs.is_parts.Lts as lts

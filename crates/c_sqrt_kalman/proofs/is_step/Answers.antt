@@ -1,6 +1,5 @@
 -- `is_step` meets its contract.
 use Rattle.c_sqrt_kalman.specs.Root.{is_step}
-use borrow.Author.Rules.{rules}
 use Rattle.c_sqrt_kalman.proofs.is_step.Goals as goal
 
 pub returns : goal.returns

@@ -2,7 +2,6 @@
 use native.Mathlib.Omega.{arith}
 use mathlib.Core.Path.{refl, sym}
 use lib.ListN.{length}
-use borrow.Author.Rules.{rules}
 use Rattle.layout.proofs.Places.{placed-none}
 use Rattle.c_sqrt_kalman.proofs.Filters.{Given, given_of, put_next}
 use Rattle.c_sqrt_kalman.proofs.put_model.Lts as lts

@@ -11,7 +11,6 @@ use borrow.Author.Tests.{eq-eqb, ne_eqb}
 use Rattle.answer.specs.Told.{given}
 use Rattle.answer.specs.Answer.{where_sized}
 use Rattle.c_sqrt_kalman.specs.Root.{state_place, is_filter, is_step}
-use borrow.Author.Rules.{rules}
 use Rattle.c_copies.proofs.Filters.{and_tested, and_failed, copied}
 use Rattle.c_sqrt_kalman.proofs.Filters.{Whole, whole_of}
 use Rattle.c_sqrt_kalman.proofs.sqrt_kalman_cholesky_factor.Lts as lts

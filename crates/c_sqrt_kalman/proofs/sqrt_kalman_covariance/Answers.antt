@@ -11,7 +11,6 @@ use borrow.Author.Tests.{eq-eqb, ne_eqb}
 use Rattle.answer.specs.Told.{given}
 use Rattle.answer.specs.Answer.{where_sized}
 use Rattle.c_sqrt_kalman.specs.Root.{factored_at, is_filter, is_step}
-use borrow.Author.Rules.{rules}
 use Rattle.sizes.proofs.Sizes.{is_count}
 use Rattle.layout.specs.Layout.{joined}
 use Rattle.filtering.specs.SquareRoot.{covariance}

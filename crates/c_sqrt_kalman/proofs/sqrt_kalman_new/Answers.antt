@@ -3,7 +3,6 @@ use native.Mathlib.Omega.{arith}
 use mathlib.Core.Path.{◌≡◌, sym, ap, ◌∙◌}
 use mathlib.Core.Bool.{Bool, true}
 use lib.ListN.{length}
-use borrow.Author.Rules.{rules}
 use Rattle.answer.specs.Told.{given}
 use Rattle.answer.specs.Answer.{if_sized, mapped}
 use Rattle.algebra.specs.Cholesky.{cholesky}

@@ -8,7 +8,6 @@ use Prim.Native.Nat.{ℕ, ◌*◌}
 use lib.Dec.{eqb}
 use lib.ListN.{length}
 use borrow.Author.Tests.{eq-eqb, ne_eqb}
-use borrow.Author.Rules.{rules}
 use Rattle.answer.specs.Answer.{if_sized}
 use Rattle.answer.specs.Outcome.{into}
 use Rattle.algebra.specs.Cholesky.{cholesky}

@@ -9,7 +9,6 @@ use lib.Ieee.{Float}
 use Rattle.answer.specs.Told.{given}
 use Rattle.answer.specs.Answer.{where_sized}
 use Rattle.c_sqrt_kalman.specs.Root.{state_place}
-use borrow.Author.Rules.{rules}
 use Rattle.c_copies.proofs.Filters.{copied}
 use Rattle.c_sqrt_kalman.proofs.Filters.{Step, step_of}
 use Rattle.c_sqrt_kalman.proofs.sqrt_kalman_state.Lts as lts

@@ -9,7 +9,6 @@ use Rattle.answer.specs.Outcome.{if_fitting}
 use Rattle.filtering.specs.SquareRoot.{predict}
 use Rattle.c_sqrt_kalman.specs.Root.{is_step, factored_at, stepped_in}
 use Rattle.c_sqrt_steps.specs.Step.{motion_at}
-use borrow.Author.Rules.{rules}
 use Rattle.c_sqrt_kalman.proofs.Filters.{step_of}
 use Rattle.c_sqrt_steps.proofs.Steps.{predicts}
 use Rattle.c_sqrt_steps.proofs.predict_plane.Goals as goal

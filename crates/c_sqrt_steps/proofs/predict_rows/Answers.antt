@@ -10,7 +10,6 @@ use Rattle.answer.specs.Outcome.{if_fitting}
 use Rattle.filtering.specs.SquareRoot.{predict}
 use Rattle.c_sqrt_kalman.specs.Root.{factored_at, stepped_in}
 use Rattle.c_sqrt_steps.specs.Step.{motion_at}
-use borrow.Author.Rules.{rules}
 use Rattle.c_copies.proofs.Filters.{Few}
 use Rattle.c_sqrt_kalman.proofs.Filters.{Step, step_of}
 use Rattle.c_sqrt_steps.proofs.Steps.{place, predicts}

@@ -2,7 +2,6 @@
 use native.Mathlib.Omega.{arith}
 use mathlib.Core.Path.{sym, ◌∙◌}
 use lib.ListN.{length}
-use borrow.Author.Rules.{rules}
 use Rattle.c_roads.proofs.Roads.{Road, road_of, road_read, pair_put}
 use Rattle.c_roads.proofs.Planes.{plane_of}
 use Rattle.c_sqrt_steps.specs.Step.{predict_in}

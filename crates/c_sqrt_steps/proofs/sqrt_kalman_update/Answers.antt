@@ -5,7 +5,6 @@ use mathlib.Core.Bool.{Bool, true, ◌&&◌}
 use lib.Dec.{eqb}
 use lib.ListN.{length}
 use borrow.Author.Tests.{eqb-true}
-use borrow.Author.Rules.{rules}
 use Rattle.answer.proofs.Choice.{and_left, and_right}
 use Rattle.c_copies.specs.Filter.{is_road}
 use Rattle.c_roads.proofs.Roads.{Road, road_of, road_read, pair_put}

@@ -13,7 +13,6 @@ use Rattle.answer.specs.Outcome.{if_fitting}
 use Rattle.filtering.specs.SquareRoot.{update}
 use Rattle.c_sqrt_kalman.specs.Root.{is_step, is_step_with, factored_at}
 use Rattle.c_sqrt_steps.specs.Step.{channel_at, outcome_in}
-use borrow.Author.Rules.{rules}
 use Rattle.c_copies.proofs.Filters.{Few}
 use Rattle.c_sqrt_kalman.proofs.Filters.{Step, step_of}
 use Rattle.c_sqrt_steps.proofs.Steps.{place, updates, refuses}

@@ -1,7 +1,7 @@
 -- `matrix_matvec` meets its contract.
 use Rattle.algebra.specs.Matrix.{matvec}
 use Rattle.algebra.proofs.Vectors.{length-matvec}
-use Rattle.c_slices.proofs.Ways.{rows_at, cols_at, three_of, matrix_in_lem, vector_in_lem, vector-made, refuses, none}
+use Rattle.c_slices.proofs.Ways.{rows_at, cols_at, three_of, matrix_in_lem, vector_in_lem, vector-made, refuses}
 use Rattle.c_vector.proofs.matrix_matvec.Goals as goal
 
 pub returns-then-are_three_matrices : goal.returns-then-are_three_matrices

@@ -1,7 +1,7 @@
 -- `matrix_outer` meets its contract.
 use Rattle.algebra.specs.Matrix.{outer}
 use Rattle.algebra.proofs.Matrices.{shape-outer}
-use Rattle.c_slices.proofs.Ways.{three_of, matrix-handed, refuses, none}
+use Rattle.c_slices.proofs.Ways.{three_of, matrix-handed, refuses}
 use Rattle.c_vector.proofs.matrix_outer.Goals as goal
 
 pub returns-then-are_three_matrices : goal.returns-then-are_three_matrices

@@ -1,7 +1,7 @@
 -- `matrix_vec_add` meets its contract.
 use Rattle.algebra.specs.Matrix.{vec_add}
 use Rattle.algebra.proofs.Vectors.{length-vec_add}
-use Rattle.c_slices.proofs.Ways.{rows_at, three_of, vector_in_lem, vector-made, refuses, none}
+use Rattle.c_slices.proofs.Ways.{rows_at, three_of, vector_in_lem, vector-made, refuses}
 use Rattle.c_vector.proofs.matrix_vec_add.Goals as goal
 
 pub returns-then-are_three_matrices : goal.returns-then-are_three_matrices

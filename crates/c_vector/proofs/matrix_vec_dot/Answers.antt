@@ -1,6 +1,6 @@
 -- `matrix_vec_dot` meets its contract.
 use Rattle.algebra.specs.Matrix.{dot}
-use Rattle.c_slices.proofs.Ways.{two_of, number-handed, paired-true, refuses, none}
+use Rattle.c_slices.proofs.Ways.{two_of, number-handed, paired-true, refuses}
 use Rattle.c_vector.proofs.matrix_vec_dot.Goals as goal
 
 pub returns-then-are_two_matrices : goal.returns-then-are_two_matrices

@@ -1,6 +1,6 @@
 -- `matrix_vec_norm` meets its contract.
 use Rattle.algebra.specs.Matrix.{vec_norm}
-use Rattle.c_slices.proofs.Ways.{one_of, number-handed, refuses, none}
+use Rattle.c_slices.proofs.Ways.{one_of, number-handed, refuses}
 use Rattle.c_vector.proofs.matrix_vec_norm.Goals as goal
 
 pub returns-then-is_matrix : goal.returns-then-is_matrix

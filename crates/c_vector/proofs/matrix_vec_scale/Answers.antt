@@ -12,7 +12,7 @@ use Rattle.algebra.specs.Matrix.{at, vec_scale}
 use Rattle.algebra.specs.Array.{cut}
 use Rattle.algebra.proofs.Vectors.{each-cut}
 use Rattle.sizes.proofs.Sizes.{Bounds, bounds_of}
-use Rattle.c_slices.proofs.Ways.{rows_at, two_of, vector_in_lem, told, vector-out, refuses, none}
+use Rattle.c_slices.proofs.Ways.{rows_at, two_of, vector_in_lem, told, vector-out, refuses}
 use Rattle.c_vector.proofs.matrix_vec_scale.Goals as goal
 
 scaled_cut : (n : ℕ) (x : List Float) (s : Float) → Bounds n → cut n (vec_scale 4 x s) ≡ vec_scale n (cut n x) s

@@ -1,7 +1,7 @@
 -- `numbers_in` meets its contract.
 use mathlib.Core.Path.{sym, ◌∙◌}
 use Rattle.algebra.specs.Array.{cut}
-use Rattle.c_slices.proofs.Ways.{whole_of, rows_at, vector_in_lem, none}
+use Rattle.c_slices.proofs.Ways.{whole_of, rows_at, vector_in_lem}
 use Rattle.c_vector.proofs.numbers_in.Goals as goal
 
 pub returns : goal.returns

@@ -1,6 +1,5 @@
 -- `dot_one` meets its contract: a sum starts at +0.
 use mathlib.Core.Path.{refl}
-use borrow.Author.Rules.{rules}
 use Rattle.algebra.specs.Matrix.{dot, sum_from}
 use Rattle.cholesky.proofs.dot_one.Goals as goal
 

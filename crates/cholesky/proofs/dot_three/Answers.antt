@@ -1,7 +1,6 @@
 -- `dot_three` meets its contract: one term more.
 use mathlib.Core.Path.{ap}
 use lib.Ieee.{Float}
-use borrow.Author.Rules.{rules}
 use Rattle.scalar.specs.Number.{◌⊕◌, ◌⊗◌}
 use Rattle.algebra.specs.Matrix.{at, dot, sum_from}
 use Rattle.cholesky.proofs.dot_three.Goals as goal

@@ -1,10 +1,9 @@
 -- `factor_of` meets its contract: row after row by one law, each the definition's next row or its refusal.
 use mathlib.Core.Path.{refl}
-use mathlib.Core.List.{List, [], ◌∷◌}
+use mathlib.Core.List.{List, ◌∷◌}
 use native.Mathlib.Omega.{arith}
 use lib.ListN.{replicate}
 use lib.Ieee.{Float}
-use borrow.Author.Rules.{rules}
 use Rattle.scalar.specs.Number.{+0}
 use Rattle.algebra.specs.Matrix.{Matrix, dot, sum_from}
 use Rattle.algebra.specs.Cholesky.{left_cells}

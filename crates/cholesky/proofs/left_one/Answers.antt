@@ -1,7 +1,6 @@
 -- `left_one` meets its contract: the first cell.
 use mathlib.Core.Path.{refl}
 use native.Mathlib.Omega.{arith}
-use borrow.Author.Rules.{rules}
 use Rattle.algebra.specs.Matrix.{dot, sum_from}
 use Rattle.cholesky.proofs.Rows.{left-none, left-more}
 use Rattle.cholesky.proofs.left_one.Goals as goal

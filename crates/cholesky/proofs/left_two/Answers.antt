@@ -1,7 +1,6 @@
 -- `left_two` meets its contract: one cell more.
-use mathlib.Core.List.{[], ◌∷◌}
+use mathlib.Core.List.{◌∷◌}
 use native.Mathlib.Omega.{arith}
-use borrow.Author.Rules.{rules}
 use Rattle.algebra.specs.Cholesky.{left_cells}
 use Rattle.cholesky.proofs.Rows.{left-more}
 use Rattle.cholesky.proofs.left_two.Goals as goal

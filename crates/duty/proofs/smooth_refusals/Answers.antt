@@ -1,11 +1,11 @@
 -- `smooth_refusals` keeps its promise: each is a case of the call's definition.
-use mathlib.Core.Path.{◌≡◌, ap}
+use mathlib.Core.Path.{ap}
 use mathlib.Core.Bool.{Bool}
 use mathlib.Core.List.{List}
 use Prim.Native.Nat.{ℕ}
 use lib.Ieee.{Float}
 use Rattle.answer.specs.declared.Status.{Status}
-use Rattle.answer.specs.Answer.{Answer, if_sized, mapped}
+use Rattle.answer.specs.Answer.{if_sized, mapped}
 use Rattle.algebra.specs.Array.{used}
 use Rattle.smoothing.specs.Backward.{pass}
 use Rattle.smoothing.specs.Smoother.{smooth, smooth_slots}

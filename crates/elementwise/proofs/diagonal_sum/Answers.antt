@@ -1,11 +1,10 @@
 -- `diagonal_sum` meets its contract: a turn adds one cell of the diagonal (`Summing`).
-use Prim.Native.Nat.{ℕ, ◌-◌, ◌≤◌}
+use Prim.Native.Nat.{ℕ, ◌-◌}
 use mathlib.Core.Path.{refl, sym, ap, ◌∙◌}
 use native.Mathlib.Omega.{arith}
-use Rattle.scalar.specs.Number.{+0}
-use Rattle.algebra.specs.Matrix.{cell, trace}
+use Rattle.algebra.specs.Matrix.{trace}
 use Rattle.algebra.specs.Array.{used}
-use Rattle.algebra.proofs.Matrices.{Summing, summing_none, summing_more, summing_all}
+use Rattle.algebra.proofs.Matrices.{summing_none, summing_more, summing_all}
 use Rattle.sizes.proofs.Sizes.{bounds}
 use Rattle.elementwise.proofs.Cells.{trace-used}
 use Rattle.elementwise.proofs.diagonal_sum.Goals as goal

@@ -1,13 +1,8 @@
 -- What the loop of `diagonal_sum` keeps.
-use Prim.Native.Nat.{ℕ, ◌-◌, ◌≤◌}
-use mathlib.Core.Path.{refl, sym, ap, ◌∙◌}
-use native.Mathlib.Omega.{arith}
+use Prim.Native.Nat.{◌-◌, ◌≤◌}
 use Rattle.scalar.specs.Number.{+0}
-use Rattle.algebra.specs.Matrix.{cell, trace}
-use Rattle.algebra.specs.Array.{used}
-use Rattle.algebra.proofs.Matrices.{Summing, summing_none, summing_more, summing_all}
-use Rattle.sizes.proofs.Sizes.{bounds}
-use Rattle.elementwise.proofs.Cells.{trace-used}
+use Rattle.algebra.specs.Matrix.{cell}
+use Rattle.algebra.proofs.Matrices.{Summing}
 use Rattle.elementwise.proofs.diagonal_sum.Given as goal
 
 abbrev pub invariant-loop-i : goal.invariant-loop-i

@@ -1,11 +1,10 @@
 -- `equal_row` meets its contract: the cells passed are equal (`Passing`), and one that is not settles it.
-use Prim.Native.Nat.{◌-◌, ◌≤◌}
-use lib.Ieee.{eq, ne}
+use Prim.Native.Nat.{◌-◌}
+use lib.Ieee.{ne}
 use borrow.Author.Tests.{not-true, not-false}
 use native.Mathlib.Omega.{arith}
-use Rattle.algebra.specs.Matrix.{at}
 use Rattle.sizes.proofs.Sizes.{bounds}
-use Rattle.elementwise.proofs.Cells.{Passing, passing_none, passing_more, passing_all, every_not}
+use Rattle.elementwise.proofs.Cells.{passing_none, passing_more, passing_all, every_not}
 use Rattle.elementwise.proofs.equal_row.Goals as goal
 
 pub loop-j-init : goal.loop-j-init

@@ -1,11 +1,8 @@
 -- What the loop of `equal_row` keeps.
 use Prim.Native.Nat.{◌-◌, ◌≤◌}
-use lib.Ieee.{eq, ne}
-use borrow.Author.Tests.{not-true, not-false}
-use native.Mathlib.Omega.{arith}
+use lib.Ieee.{eq}
 use Rattle.algebra.specs.Matrix.{at}
-use Rattle.sizes.proofs.Sizes.{bounds}
-use Rattle.elementwise.proofs.Cells.{Passing, passing_none, passing_more, passing_all, every_not}
+use Rattle.elementwise.proofs.Cells.{Passing}
 use Rattle.elementwise.proofs.equal_row.Given as goal
 
 abbrev pub invariant-loop-j : goal.invariant-loop-j

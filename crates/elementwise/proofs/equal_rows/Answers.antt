@@ -1,12 +1,9 @@
 -- `equal_rows` meets its contract: the rows passed are equal (`Passing`), and one that is not settles it.
-use Prim.Native.Nat.{◌-◌, ◌≤◌}
+use Prim.Native.Nat.{◌-◌}
 use mathlib.Core.Path.{sym, ◌∙◌}
-use lib.Ieee.{eq}
 use native.Mathlib.Omega.{arith}
-use Rattle.algebra.specs.Matrix.{cell, every}
-use Rattle.sizes.specs.Size.{count}
 use Rattle.sizes.proofs.Sizes.{bounds}
-use Rattle.elementwise.proofs.Cells.{Passing, passing_none, passing_more, passing_all, every_not, equal-used}
+use Rattle.elementwise.proofs.Cells.{passing_none, passing_more, passing_all, every_not, equal-used}
 use Rattle.elementwise.proofs.equal_rows.Goals as goal
 
 pub loop-i-init : goal.loop-i-init

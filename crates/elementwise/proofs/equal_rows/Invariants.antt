@@ -1,13 +1,9 @@
 -- What the loop of `equal_rows` keeps.
 use Prim.Native.Nat.{◌-◌, ◌≤◌}
-use mathlib.Core.Path.{sym, ◌∙◌}
 use lib.Ieee.{eq}
-use borrow.Author.Tests.{not-true, not-false}
-use native.Mathlib.Omega.{arith}
 use Rattle.algebra.specs.Matrix.{cell, every}
 use Rattle.sizes.specs.Size.{count}
-use Rattle.sizes.proofs.Sizes.{bounds}
-use Rattle.elementwise.proofs.Cells.{Passing, passing_none, passing_more, passing_all, every_not, equal-used}
+use Rattle.elementwise.proofs.Cells.{Passing}
 use Rattle.elementwise.proofs.equal_rows.Given as goal
 
 abbrev pub invariant-loop-i : goal.invariant-loop-i

@@ -1,10 +1,10 @@
 -- `squares_row` meets its contract: a turn adds one square (`Summing`).
-use Prim.Native.Nat.{ℕ, ◌-◌, ◌≤◌}
+use Prim.Native.Nat.{ℕ, ◌-◌}
 use mathlib.Core.Path.{refl, ap, ◌∙◌}
 use native.Mathlib.Omega.{arith}
 use Rattle.scalar.specs.Number.{◌⊗◌}
 use Rattle.algebra.specs.Matrix.{at, sum_from}
-use Rattle.algebra.proofs.Matrices.{Summing, summing_none, summing_more, summing_all}
+use Rattle.algebra.proofs.Matrices.{summing_none, summing_more, summing_all}
 use Rattle.sizes.proofs.Sizes.{bounds}
 use Rattle.elementwise.proofs.squares_row.Goals as goal
 

@@ -1,11 +1,8 @@
 -- What the loop of `squares_row` keeps.
-use Prim.Native.Nat.{ℕ, ◌-◌, ◌≤◌}
-use mathlib.Core.Path.{refl, ap, ◌∙◌}
-use native.Mathlib.Omega.{arith}
+use Prim.Native.Nat.{◌-◌, ◌≤◌}
 use Rattle.scalar.specs.Number.{◌⊗◌}
-use Rattle.algebra.specs.Matrix.{at, sum_from}
-use Rattle.algebra.proofs.Matrices.{Summing, summing_none, summing_more, summing_all}
-use Rattle.sizes.proofs.Sizes.{bounds}
+use Rattle.algebra.specs.Matrix.{at}
+use Rattle.algebra.proofs.Matrices.{Summing}
 use Rattle.elementwise.proofs.squares_row.Given as goal
 
 abbrev pub invariant-loop-j : goal.invariant-loop-j

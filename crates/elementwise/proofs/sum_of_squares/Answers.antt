@@ -1,9 +1,8 @@
 -- `sum_of_squares` meets its contract: a turn adds the squares of one row (`Squaring`).
-use Prim.Native.Nat.{◌-◌, ◌≤◌}
+use Prim.Native.Nat.{◌-◌}
 use native.Mathlib.Omega.{arith}
-use Rattle.sizes.specs.Size.{count}
 use Rattle.sizes.proofs.Sizes.{bounds}
-use Rattle.elementwise.proofs.Cells.{Squaring, squaring_none, squaring_more, squaring_all}
+use Rattle.elementwise.proofs.Cells.{squaring_none, squaring_more, squaring_all}
 use Rattle.elementwise.proofs.sum_of_squares.Goals as goal
 
 pub loop-i-init : goal.loop-i-init

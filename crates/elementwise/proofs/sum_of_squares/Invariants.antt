@@ -1,9 +1,7 @@
 -- What the loop of `sum_of_squares` keeps.
 use Prim.Native.Nat.{◌-◌, ◌≤◌}
-use native.Mathlib.Omega.{arith}
 use Rattle.sizes.specs.Size.{count}
-use Rattle.sizes.proofs.Sizes.{bounds}
-use Rattle.elementwise.proofs.Cells.{Squaring, squaring_none, squaring_more, squaring_all}
+use Rattle.elementwise.proofs.Cells.{Squaring}
 use Rattle.elementwise.proofs.sum_of_squares.Given as goal
 
 abbrev pub invariant-loop-i : goal.invariant-loop-i

@@ -7,7 +7,6 @@ use Rattle.algebra.proofs.Matrices.{shape-sub}
 use Rattle.sizes.specs.declared.Size.TheVariants.{Two, Four}
 use Rattle.filtering.specs.Filter.{corrected_covariance}
 use Rattle.four_states.proofs.Parts.{rest-row, rows-used}
-use borrow.Author.Rules.{rules}
 use Rattle.four_states.proofs.corrected_covariance.Goals as goal
 
 pub returns : goal.returns

@@ -1,7 +1,7 @@
 -- `gain` meets its contract: its four rows.
 use native.Mathlib.Omega.{arith}
 use mathlib.Core.Path.{refl}
-use mathlib.Core.List.{[], ◌∷◌}
+use mathlib.Core.List.{◌∷◌}
 use Rattle.algebra.specs.Matrix.{row}
 use Rattle.algebra.specs.Array.{used}
 use Rattle.algebra.proofs.Arrays.{rows_at}
@@ -10,7 +10,6 @@ use Rattle.rows.proofs.RowWise.{rows_are}
 use Rattle.filtering.specs.Filter.{gain}
 use Rattle.filtering.proofs.Shapes.{shape-gain}
 use Rattle.four_states.proofs.Parts.{gain-row}
-use borrow.Author.Rules.{rules}
 use Rattle.four_states.proofs.gain.Goals as goal
 
 pub returns : goal.returns

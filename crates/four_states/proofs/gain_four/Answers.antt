@@ -7,7 +7,6 @@ use Rattle.algebra.proofs.Matrices.{shape-mul}
 use Rattle.sizes.specs.declared.Size.TheVariants.{Four}
 use Rattle.filtering.specs.Filter.{gain}
 use Rattle.four_states.proofs.Parts.{across_row, rows-used}
-use borrow.Author.Rules.{rules}
 use Rattle.four_states.proofs.gain_four.Goals as goal
 
 pub returns : goal.returns

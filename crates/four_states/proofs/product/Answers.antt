@@ -1,7 +1,7 @@
 -- `product` meets its contract: its four rows.
 use native.Mathlib.Omega.{arith}
 use mathlib.Core.Path.{refl}
-use mathlib.Core.List.{[], ◌∷◌}
+use mathlib.Core.List.{◌∷◌}
 use Rattle.algebra.specs.Matrix.{row, mul}
 use Rattle.algebra.specs.Array.{used}
 use Rattle.algebra.proofs.Matrices.{shape-mul}
@@ -9,7 +9,6 @@ use Rattle.algebra.proofs.Arrays.{rows_at}
 use Rattle.sizes.specs.declared.Size.TheVariants.{Four}
 use Rattle.rows.proofs.RowWise.{rows_are}
 use Rattle.four_states.proofs.Parts.{product-row}
-use borrow.Author.Rules.{rules}
 use Rattle.four_states.proofs.product.Goals as goal
 
 pub returns : goal.returns

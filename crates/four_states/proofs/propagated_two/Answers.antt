@@ -1,7 +1,7 @@
 -- `propagated_two` meets its contract: its two rows, and +0 behind them.
 use native.Mathlib.Omega.{arith}
 use mathlib.Core.Path.{refl}
-use mathlib.Core.List.{List, [], ◌∷◌}
+use mathlib.Core.List.{List, ◌∷◌}
 use lib.ListN.{replicate}
 use lib.Ieee.{Float}
 use Rattle.scalar.specs.Number.{+0}
@@ -13,7 +13,6 @@ use Rattle.rows.proofs.RowWise.{rows_are}
 use Rattle.filtering.specs.Filter.{propagated}
 use Rattle.filtering.proofs.Shapes.{shape-propagated}
 use Rattle.four_states.proofs.Parts.{propagated-row}
-use borrow.Author.Rules.{rules}
 use Rattle.four_states.proofs.propagated_two.Goals as goal
 
 abbrev none : List Float

@@ -1,8 +1,6 @@
 -- `ended` meets its contract: by what was told.
 use borrow.Author.Rules.{rules}
 use Rattle.fusion.proofs.Joining.{ended-refused}
-use Rattle.fusion.proofs.ended.Reads as reads
-use Rattle.fusion.proofs.ended.Lts as lts
 use Rattle.fusion.proofs.ended.Goals as goal
 
 pub returns-in-Done : goal.returns-in-Done

@@ -1,8 +1,6 @@
 -- `joined` meets its contract: by what was told before.
 use borrow.Author.Rules.{rules}
 use Rattle.fusion.proofs.Joining.{joined-done}
-use Rattle.fusion.proofs.joined.Reads as reads
-use Rattle.fusion.proofs.joined.Lts as lts
 use Rattle.fusion.proofs.joined.Goals as goal
 
 pub returns-in-Done : goal.returns-in-Done

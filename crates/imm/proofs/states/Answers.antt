@@ -1,6 +1,5 @@
 -- `states` meets its contract: one of each model.
 use mathlib.Core.Path.{refl}
-use borrow.Author.Rules.{rules}
 use Rattle.imm.proofs.states.Goals as goal
 
 pub returns : goal.returns

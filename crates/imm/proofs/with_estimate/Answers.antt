@@ -1,9 +1,4 @@
 -- `with_estimate` meets its contract: the other fields stay.
-use mathlib.Core.Path.{ap}
-use mathlib.Core.List.{List}
-use lib.Ieee.{Float}
-use Rattle.imm.specs.declared.ImmModel.{ImmModel}
-use borrow.Author.Rules.{rules}
 use Rattle.imm.proofs.with_estimate.Goals as goal
 
 pub returns : goal.returns

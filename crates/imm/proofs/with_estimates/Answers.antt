@@ -1,6 +1,5 @@
 -- `with_estimates` meets its contract: model by model.
-use mathlib.Core.List.{[], ◌∷◌}
-use borrow.Author.Rules.{rules}
+use mathlib.Core.List.{◌∷◌}
 use Rattle.imm.proofs.with_estimates.Goals as goal
 
 pub returns : goal.returns

@@ -1,14 +1,12 @@
 -- `mix` meets its contract: the predicted probabilities, and each model by its weights.
 use mathlib.Core.Path.{◌≡◌, refl, ap, ◌∙◌}
-use mathlib.Core.List.{[], ◌∷◌}
+use mathlib.Core.List.{◌∷◌}
 use lib.Ieee.{Float}
 use Rattle.scalar.specs.Number.{◌⊕◌, ◌⊗◌, +0}
 use Rattle.algebra.specs.Matrix.{Vector, sum_from}
-use Rattle.filtering.specs.Filter.{Estimate}
-use Rattle.mixing.specs.Mixing.{predicted, weights, weighted, spread, mixed_covariance, mixed_estimate, mix_estimates}
+use Rattle.mixing.specs.Mixing.{predicted, weights, weighted, mixed_covariance, mixed_estimate, mix_estimates}
 use Rattle.road.specs.declared.Pair.{Pair}
 use Rattle.imm_road.specs.Road.{bank_of}
-use borrow.Author.Rules.{rules}
 use Rattle.imm_road.proofs.mix.Goals as goal
 
 -- a mixed estimate reads no probability

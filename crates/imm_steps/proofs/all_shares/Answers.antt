@@ -1,6 +1,6 @@
 -- `all_shares` meets its contract: each way out has the rows of one number of models.
 use mathlib.Core.Path.{◌≡◌}
-use mathlib.Core.List.{List, [], ◌∷◌}
+use mathlib.Core.List.{List, ◌∷◌}
 use native.Mathlib.Omega.{arith}
 use lib.ListN.{replicate}
 use lib.Ieee.{Float}
@@ -11,7 +11,6 @@ use Rattle.sizes.specs.Size.{count, front}
 use Rattle.sizes.proofs.Sizes.{bounds}
 use Rattle.imm_steps.specs.Bank.{share_of}
 use Rattle.imm_steps.proofs.Ways.{up_to_one, up_to_two, up_to_three, up_to_four}
-use borrow.Author.Rules.{rules}
 use Rattle.imm_steps.proofs.all_shares.Goals as goal
 
 pub returns-then-n-lt2 : goal.returns-then-n-lt2

@@ -1,10 +1,8 @@
 -- `covariance_row` meets its contract: the models' rows, combined by their weights.
-use mathlib.Core.Path.{refl}
 use Rattle.answer.specs.Table.{table}
 use Rattle.rows.proofs.Kernels.{combination_is}
 use Rattle.sizes.proofs.Sizes.{bounds}
 use Rattle.imm_steps.specs.Bank.{spread_cell}
-use borrow.Author.Rules.{rules}
 use Rattle.imm_steps.proofs.covariance_row.Goals as goal
 
 pub returns : goal.returns

@@ -1,14 +1,11 @@
 -- `mix` meets its contract: a turn of the loop makes one model's mixed estimate, from what all models held at the start.
-use Prim.Native.Nat.{ℕ, ◌-◌, ◌≤◌, ◌<◌}
+use Prim.Native.Nat.{ℕ, ◌-◌, ◌<◌}
 use native.Mathlib.Omega.{arith}
-use mathlib.Core.Path.{◌≡◌, subst}
-use lib.ListN.{replicate}
-use Rattle.scalar.specs.Number.{+0}
-use Rattle.answer.proofs.Tables.{Filling, filling-none, filling-more}
-use Rattle.algebra.specs.Array.{pad_row, pad}
+use mathlib.Core.Path.{subst}
+use Rattle.answer.proofs.Tables.{filling-none, filling-more}
 use Rattle.sizes.specs.Size.{count}
 use Rattle.sizes.proofs.Sizes.{bounds}
-use Rattle.imm_steps.proofs.Mixes.{mixed, weights_are, state-turn, covariance-turn, all-turns}
+use Rattle.imm_steps.proofs.Mixes.{weights_are, state-turn, covariance-turn, all-turns}
 use Rattle.imm_steps.proofs.mix.Goals as goal
 
 pub loop-j-init : goal.loop-j-init

@@ -1,14 +1,12 @@
 -- What the loop of `mix` keeps.
-use Prim.Native.Nat.{ℕ, ◌-◌, ◌≤◌, ◌<◌}
-use native.Mathlib.Omega.{arith}
-use mathlib.Core.Path.{◌≡◌, subst}
+use Prim.Native.Nat.{◌-◌, ◌≤◌}
+use mathlib.Core.Path.{◌≡◌}
 use lib.ListN.{replicate}
 use Rattle.scalar.specs.Number.{+0}
-use Rattle.answer.proofs.Tables.{Filling, filling-none, filling-more}
+use Rattle.answer.proofs.Tables.{Filling}
 use Rattle.algebra.specs.Array.{pad_row, pad}
 use Rattle.sizes.specs.Size.{count}
-use Rattle.sizes.proofs.Sizes.{bounds}
-use Rattle.imm_steps.proofs.Mixes.{mixed, weights_are, state-turn, covariance-turn, all-turns}
+use Rattle.imm_steps.proofs.Mixes.{mixed}
 use Rattle.imm_steps.proofs.mix.Given as goal
 
 abbrev pub invariant-loop-j : goal.invariant-loop-j

@@ -1,17 +1,12 @@
 -- `mixed_covariance` meets its contract: a loop over the rows, each made by itself.
-use Prim.Native.Nat.{ℕ, ◌-◌, ◌≤◌, ◌<◌}
+use Prim.Native.Nat.{ℕ, ◌-◌, ◌<◌}
 use native.Mathlib.Omega.{arith}
-use mathlib.Core.Path.{◌≡◌, subst, ◌∙◌}
-use mathlib.Core.List.{[]}
-use Rattle.scalar.specs.Number.{◌⊗◌}
-use Rattle.answer.specs.Table.{table}
-use Rattle.algebra.specs.Matrix.{at, sum_of}
+use mathlib.Core.Path.{subst, ◌∙◌}
 use Rattle.algebra.specs.Array.{cut}
-use Rattle.algebra.proofs.Arrays.{Rows, rows_none, rows_more, rows_all}
+use Rattle.algebra.proofs.Arrays.{rows_none, rows_more, rows_all}
 use Rattle.sizes.specs.Size.{count}
 use Rattle.rows.proofs.Kernels.{leading_row}
 use Rattle.sizes.proofs.Sizes.{bounds}
-use Rattle.imm_steps.specs.Bank.{spread_cell}
 use Rattle.imm_steps.proofs.Banks.{covariance-used}
 use Rattle.imm_steps.proofs.mixed_covariance.Goals as goal
 

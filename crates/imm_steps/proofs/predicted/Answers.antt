@@ -7,7 +7,6 @@ use Rattle.rows.specs.Row.{row_times}
 use Rattle.rows.proofs.Kernels.{leading_row}
 use Rattle.sizes.proofs.Sizes.{bounds}
 use Rattle.imm_steps.proofs.Banks.{share, predicted-used}
-use borrow.Author.Rules.{rules}
 use Rattle.imm_steps.proofs.predicted.Goals as goal
 
 pub returns : goal.returns

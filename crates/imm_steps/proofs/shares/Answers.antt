@@ -1,6 +1,6 @@
 -- `shares` meets its contract: each way out has a weight for each model that is there.
 use mathlib.Core.Path.{◌≡◌}
-use mathlib.Core.List.{[], ◌∷◌}
+use mathlib.Core.List.{◌∷◌}
 use Prim.Native.Nat.{ℕ}
 use native.Mathlib.Omega.{arith}
 use lib.Ieee.{Float}
@@ -10,7 +10,6 @@ use Rattle.sizes.specs.Size.{count}
 use Rattle.sizes.proofs.Sizes.{bounds}
 use Rattle.imm_steps.specs.Bank.{share_of}
 use Rattle.imm_steps.proofs.Ways.{up_to_two, up_to_four, first_are}
-use borrow.Author.Rules.{rules}
 use Rattle.imm_steps.proofs.shares.Goals as goal
 
 pub returns-then-number-lt3 : goal.returns-then-number-lt3

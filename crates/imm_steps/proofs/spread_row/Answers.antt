@@ -1,6 +1,5 @@
 -- `spread_row` meets its contract: four cells, each read off its arrays.
 use mathlib.Core.Path.{refl}
-use native.Mathlib.Omega.{arith}
 use Rattle.imm_steps.proofs.spread_row.Goals as goal
 
 pub returns : goal.returns

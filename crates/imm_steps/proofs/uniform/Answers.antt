@@ -11,7 +11,6 @@ use Rattle.sizes.specs.Size.{count}
 use Rattle.rows.proofs.Kernels.{leading_row}
 use Rattle.sizes.proofs.Sizes.{bounds}
 use Rattle.mixing.specs.Mixing.{uniform}
-use borrow.Author.Rules.{rules}
 use Rattle.imm_steps.proofs.uniform.Goals as goal
 
 pub overflow_cast-models : goal.overflow_cast-models

@@ -1,6 +1,5 @@
 -- `update_probabilities` meets its contract: by the test of the sum.
 use mathlib.Core.Path.{◌≡◌, refl, sym, ap, ◌∙◌}
-use mathlib.Core.List.{[]}
 use Prim.Native.Nat.{ℕ}
 use Rattle.scalar.specs.Number.{◌⊗◌, ◌⊘◌}
 use Rattle.answer.proofs.Choice.{cond-true, cond-false}
@@ -11,7 +10,6 @@ use Rattle.rows.proofs.Kernels.{dot-sized, leading_row}
 use Rattle.sizes.proofs.Sizes.{bounds}
 use Rattle.imm_steps.proofs.Banks.{probabilities-used}
 use native.Mathlib.Omega.{arith}
-use borrow.Author.Rules.{rules}
 use Rattle.imm_steps.proofs.update_probabilities.Lts as lts
 use Rattle.imm_steps.proofs.update_probabilities.Tie as tie
 use Rattle.imm_steps.proofs.update_probabilities.Reads as reads

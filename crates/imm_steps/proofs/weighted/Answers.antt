@@ -1,6 +1,5 @@
 -- `weighted` meets its contract: the weights times the states, in all four columns, and the used ones taken.
 use mathlib.Core.Path.{sym, ap, ◌∙◌}
-use mathlib.Core.List.{[]}
 use Rattle.scalar.specs.Number.{◌⊗◌}
 use Rattle.algebra.specs.Matrix.{at, cell, sum_of}
 use Rattle.algebra.specs.Array.{cut, pad_row}
@@ -9,7 +8,6 @@ use Rattle.rows.specs.Row.{row_times}
 use Rattle.rows.proofs.Kernels.{leading_row}
 use Rattle.sizes.proofs.Sizes.{bounds}
 use Rattle.imm_steps.proofs.Banks.{weighted-used}
-use borrow.Author.Rules.{rules}
 use Rattle.imm_steps.proofs.weighted.Goals as goal
 
 pub returns : goal.returns

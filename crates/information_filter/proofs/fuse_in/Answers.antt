@@ -1,6 +1,5 @@
 -- `fuse_in` meets its contract: by the test of the sizes.
 use Rattle.information_filter.proofs.Ways.{fused, unfused}
-use borrow.Author.Rules.{rules}
 use Rattle.information_filter.proofs.fuse_in.Goals as goal
 
 pub returns-then-both : goal.returns-then-both

@@ -1,14 +1,11 @@
 -- `inform_rows` meets its contract: the rows that it reads are those of the sensor and the record.
-use mathlib.Core.Path.{◌≡◌, ◌∙◌}
-use mathlib.Core.List.{List}
-use lib.Ieee.{Float}
-use Rattle.algebra.specs.Array.{flat_of_rows, pad_row}
+use mathlib.Core.Path.{◌∙◌}
+use Rattle.algebra.specs.Array.{flat_of_rows}
 use Rattle.sizes.specs.Size.{count, front}
 use Rattle.filtering.specs.Information.{informed}
 use Rattle.steps.proofs.Flats.{read}
 use Rattle.information_steps.specs.Step.{arrays_of}
 use Rattle.information_filter.proofs.Ways.{read-information}
-use borrow.Author.Rules.{rules}
 use Rattle.information_filter.proofs.inform_rows.Goals as goal
 
 pub returns : goal.returns

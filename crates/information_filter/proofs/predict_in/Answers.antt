@@ -6,7 +6,6 @@ use Rattle.filtering.specs.Information.{predict}
 use Rattle.steps.specs.Flat.{motion_flat}
 use Rattle.steps.proofs.Records.{by_rows, unfit}
 use Rattle.information_filter.specs.Record.{information_flat, flats_of}
-use borrow.Author.Rules.{rules}
 use Rattle.information_filter.proofs.predict_in.Goals as goal
 
 pub returns-then-is_fitting : goal.returns-then-is_fitting

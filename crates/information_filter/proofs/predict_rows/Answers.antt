@@ -8,7 +8,6 @@ use Rattle.steps.proofs.Flats.{read-motion}
 use Rattle.information_steps.specs.Step.{arrays_of}
 use Rattle.information_steps.proofs.Ways.{plain-predict}
 use Rattle.information_filter.proofs.Ways.{read-information, went, stopped}
-use borrow.Author.Rules.{rules}
 use Rattle.information_filter.proofs.predict_rows.Goals as goal
 
 pub returns-in-Done : goal.returns-in-Done

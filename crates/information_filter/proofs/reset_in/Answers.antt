@@ -6,7 +6,6 @@ use Rattle.filtering.specs.Information.{of_estimate}
 use Rattle.steps.specs.Flat.{estimate_from}
 use Rattle.steps.proofs.Records.{by_rows, unfit}
 use Rattle.information_filter.specs.Record.{flats_of}
-use borrow.Author.Rules.{rules}
 use Rattle.information_filter.proofs.reset_in.Goals as goal
 
 pub returns-then-is_fitting : goal.returns-then-is_fitting

@@ -1,11 +1,9 @@
 -- `reset_rows` meets its contract: by the status.
-use mathlib.Core.List.{[]}
 use Rattle.algebra.specs.Array.{pad}
 use Rattle.sizes.specs.Size.{count}
 use Rattle.steps.specs.Flat.{estimate_from}
 use Rattle.information_steps.proofs.Ways.{plain-estimate}
 use Rattle.information_filter.proofs.Ways.{went, stopped}
-use borrow.Author.Rules.{rules}
 use Rattle.information_filter.proofs.reset_rows.Goals as goal
 
 pub returns-in-Done : goal.returns-in-Done

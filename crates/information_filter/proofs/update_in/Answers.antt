@@ -5,7 +5,6 @@ use Rattle.filtering.specs.Information.{update}
 use Rattle.steps.specs.Flat.{sensor_flat}
 use Rattle.steps.proofs.Records.{by_rows, unfit}
 use Rattle.information_filter.specs.Record.{information_flat, flats_of}
-use borrow.Author.Rules.{rules}
 use Rattle.information_filter.proofs.update_in.Goals as goal
 
 pub returns-then-is_fitting : goal.returns-then-is_fitting

@@ -10,7 +10,6 @@ use Rattle.information_steps.specs.Step.{arrays_of, update_by}
 use Rattle.information_steps.proofs.Ways.{inverted, rejected}
 use Rattle.information_filter.specs.Record.{information_flat}
 use Rattle.information_filter.proofs.Ways.{read-information, updated, not_updated}
-use borrow.Author.Rules.{rules}
 use Rattle.information_filter.proofs.update_rows.Goals as goal
 
 pub returns-in-Done : goal.returns-in-Done

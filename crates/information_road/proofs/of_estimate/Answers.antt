@@ -1,6 +1,5 @@
 -- `of_estimate` meets its contract: by what the inversion answers.
 use Rattle.algebra.specs.Matrix.{sum_from, matvec}
-use borrow.Author.Rules.{rules}
 use Rattle.information_road.proofs.Ways.{made, not_made}
 use Rattle.information_road.proofs.of_estimate.Goals as goal
 

@@ -1,5 +1,4 @@
 -- `predict` meets its contract: by what the inversion of omega answers, and then as of an estimate.
-use borrow.Author.Rules.{rules}
 use Rattle.information_road.proofs.Ways.{predicted, not_predicted}
 use Rattle.information_road.proofs.predict.Goals as goal
 

@@ -1,5 +1,4 @@
 -- `update_by` meets its contract: by what the inversion of the omega that the addition made answers.
-use borrow.Author.Rules.{rules}
 use Rattle.information_road.proofs.Ways.{told-after, refused-after}
 use Rattle.information_road.proofs.update_by.Goals as goal
 

@@ -1,6 +1,5 @@
 -- `inform` meets its contract: its two parts.
 use Rattle.filtering.specs.Information.{informed}
-use borrow.Author.Rules.{rules}
 use Rattle.information_steps.proofs.inform.Goals as goal
 
 pub returns : goal.returns

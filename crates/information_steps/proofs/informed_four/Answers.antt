@@ -1,7 +1,7 @@
 -- `informed_four` meets its contract: its four rows.
 use native.Mathlib.Omega.{arith}
 use mathlib.Core.Path.{refl}
-use mathlib.Core.List.{[], ◌∷◌}
+use mathlib.Core.List.{◌∷◌}
 use Rattle.algebra.specs.Matrix.{row}
 use Rattle.algebra.specs.Array.{used}
 use Rattle.algebra.proofs.Arrays.{rows_at}
@@ -11,7 +11,6 @@ use Rattle.filtering.specs.Information.{informed}
 use Rattle.information_steps.specs.Step.{information_rows}
 use Rattle.information_steps.proofs.Ways.{shape-informed}
 use Rattle.information_steps.proofs.Additions.{informed-row}
-use borrow.Author.Rules.{rules}
 use Rattle.information_steps.proofs.informed_four.Goals as goal
 
 pub returns : goal.returns

@@ -1,16 +1,13 @@
 -- `informed_matrix` meets its contract: four states and two measurements are written out; else a loop over the rows, each made by itself.
-use Prim.Native.Nat.{ℕ, ◌-◌, ◌≤◌, ◌<◌}
+use Prim.Native.Nat.{ℕ, ◌-◌, ◌<◌}
 use native.Mathlib.Omega.{arith}
 use mathlib.Core.Path.{◌≡◌, sym, subst, ◌∙◌}
-use mathlib.Core.List.{[]}
-use Rattle.algebra.specs.Matrix.{row}
 use Rattle.algebra.specs.Array.{cut, used, pad}
-use Rattle.algebra.proofs.Arrays.{Rows, rows_none, rows_more, rows_all}
-use Rattle.sizes.specs.Size.{count, part}
+use Rattle.algebra.proofs.Arrays.{rows_none, rows_more, rows_all}
+use Rattle.sizes.specs.Size.{count}
 use Rattle.sizes.proofs.Sizes.{bounds}
 use Rattle.rows.proofs.RowWise.{rows_are}
 use Rattle.filtering.specs.Information.{informed}
-use Rattle.information_steps.specs.Step.{information_rows}
 use Rattle.information_steps.proofs.Ways.{shape-informed}
 use Rattle.information_steps.proofs.Additions.{informed-row}
 use Rattle.information_steps.proofs.informed_matrix.Goals as goal

@@ -1,18 +1,11 @@
 -- What the loop of `informed_matrix` keeps.
-use Prim.Native.Nat.{ℕ, ◌-◌, ◌≤◌, ◌<◌}
-use native.Mathlib.Omega.{arith}
-use mathlib.Core.Path.{◌≡◌, sym, subst, ◌∙◌}
-use mathlib.Core.List.{[]}
+use Prim.Native.Nat.{◌-◌, ◌≤◌}
+use mathlib.Core.Path.{◌≡◌}
 use Rattle.algebra.specs.Matrix.{row}
-use Rattle.algebra.specs.Array.{cut, used, pad}
-use Rattle.algebra.proofs.Arrays.{Rows, rows_none, rows_more, rows_all}
+use Rattle.algebra.proofs.Arrays.{Rows}
 use Rattle.sizes.specs.Size.{count, part}
-use Rattle.sizes.proofs.Sizes.{bounds}
-use Rattle.rows.proofs.RowWise.{rows_are}
 use Rattle.filtering.specs.Information.{informed}
 use Rattle.information_steps.specs.Step.{information_rows}
-use Rattle.information_steps.proofs.Ways.{shape-informed}
-use Rattle.information_steps.proofs.Additions.{informed-row}
 use Rattle.information_steps.proofs.informed_matrix.Given as goal
 
 abbrev pub invariant-loop-i : goal.invariant-loop-i

@@ -7,7 +7,6 @@ use Rattle.algebra.proofs.Vectors.{length-matvec}
 use Rattle.algebra.proofs.Arrays.{used-pad, cut-pad_row}
 use Rattle.sizes.specs.Size.{count, front, part}
 use Rattle.filtering.specs.Information.{informed}
-use borrow.Author.Rules.{rules}
 use Rattle.information_steps.proofs.informed_vector.Goals as goal
 
 pub returns : goal.returns

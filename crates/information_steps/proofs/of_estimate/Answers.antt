@@ -1,6 +1,5 @@
 -- `of_estimate` meets its contract: by what the inversion answers.
 use Rattle.information_steps.proofs.Ways.{made, not_made}
-use borrow.Author.Rules.{rules}
 use Rattle.information_steps.proofs.of_estimate.Goals as goal
 
 pub returns-in-Done : goal.returns-in-Done

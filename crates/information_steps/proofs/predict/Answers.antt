@@ -1,7 +1,6 @@
 -- `predict` meets its contract: by what the inversion of omega answers, and then as of an estimate.
 use Rattle.information_steps.proofs.Ways.{predicted, not_predicted}
 use Rattle.filtering.specs.Filter.{predicted_state}
-use borrow.Author.Rules.{rules}
 use Rattle.information_steps.proofs.predict.Goals as goal
 
 pub returns-in-Done : goal.returns-in-Done

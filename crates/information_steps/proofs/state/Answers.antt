@@ -1,6 +1,5 @@
 -- `state` meets its contract: by what the inversion answers.
 use Rattle.information_steps.proofs.Ways.{state-found, no_state}
-use borrow.Author.Rules.{rules}
 use Rattle.information_steps.proofs.state.Goals as goal
 
 pub returns-in-Done : goal.returns-in-Done

@@ -1,6 +1,5 @@
 -- `update_by` meets its contract: by what the state after the addition is told as.
 use Rattle.information_steps.proofs.Ways.{shape-informed, length-informed, told-after, refused-after}
-use borrow.Author.Rules.{rules}
 use Rattle.information_steps.proofs.update_by.Goals as goal
 
 pub returns-in-Done : goal.returns-in-Done

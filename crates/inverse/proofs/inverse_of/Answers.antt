@@ -1,7 +1,6 @@
 -- `inverse_of` meets its contract: by its size.
 use mathlib.Core.Path.{◌∙◌}
 use native.Mathlib.Omega.{arith}
-use borrow.Author.Rules.{rules}
 use Rattle.algebra.specs.Array.{cut, used}
 use Rattle.sizes.proofs.Sizes.{is_one, exactly}
 use Rattle.inverse.proofs.Elimination.{inv_at}

@@ -1,7 +1,6 @@
 -- `inverse_one` meets its contract: by what the inversion of one number answers.
 use Rattle.algebra.specs.Matrix.{one_by_one}
 use mathlib.Core.Path.{sym, ap, ◌∙◌}
-use borrow.Author.Rules.{rules}
 use Rattle.answer.specs.Answer.{mapped}
 use Rattle.algebra.specs.Array.{pad}
 use Rattle.matrix.specs.Result.{as_matrix}

@@ -1,10 +1,10 @@
 -- `pivot_row` meets its contract: the loop keeps the pivot among the rows passed, with its magnitude.
 use mathlib.Core.Path.{ap, ◌∙◌}
-use Prim.Native.Nat.{ℕ, suc, ◌-◌, ◌≤◌}
+use Prim.Native.Nat.{ℕ, suc, ◌-◌}
 use native.Mathlib.Omega.{arith}
 use Rattle.algebra.specs.Inverse.{pivot_row}
 use Rattle.sizes.proofs.Sizes.{bounds}
-use Rattle.inverse.proofs.Pivots.{Searching, searching-first, searching-past, searching-passed, searching-kept, searching-all}
+use Rattle.inverse.proofs.Pivots.{searching-first, searching-past, searching-passed, searching-kept, searching-all}
 use Rattle.inverse.proofs.pivot_row.Goals as goal
 use Rattle.inverse.proofs.pivot_row.Goals.{then-i-rows+then-x-largest, then-i-rows+else-x-largest, else-i-rows}
 

@@ -1,11 +1,6 @@
 -- What the loop of `pivot_row` keeps.
-use mathlib.Core.Logic.{⊎_elim}
-use mathlib.Core.Path.{ap, ◌∙◌}
-use Prim.Native.Nat.{ℕ, suc, ◌-◌, ◌≤◌}
-use native.Mathlib.Omega.{arith}
-use Rattle.algebra.specs.Inverse.{pivot_row}
-use Rattle.sizes.proofs.Sizes.{bounds}
-use Rattle.inverse.proofs.Pivots.{Searching, searching-first, searching-past, searching-passed, searching-kept, searching-all}
+use Prim.Native.Nat.{◌-◌, ◌≤◌}
+use Rattle.inverse.proofs.Pivots.{Searching}
 use Rattle.inverse.proofs.pivot_row.Given as goal
 
 abbrev pub invariant-loop-i : goal.invariant-loop-i

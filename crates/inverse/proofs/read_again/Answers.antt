@@ -1,9 +1,8 @@
 -- `read_again` meets its contract: four rows, each read to its end.
 use mathlib.Core.Path.{◌≡◌, ap, ◌∙◌}
-use mathlib.Core.List.{List, [], ◌∷◌}
+use mathlib.Core.List.{List, ◌∷◌}
 use Prim.Native.Nat.{ℕ}
 use lib.Ieee.{Float}
-use borrow.Author.Rules.{rules}
 use Rattle.answer.specs.declared.Status.{Status}
 use Rattle.algebra.specs.Matrix.{Matrix, row}
 use Rattle.algebra.specs.Array.{cut, used, pad_row}

@@ -1,7 +1,7 @@
 -- `reduce_rows` meets its contract: the loop has replaced the rows passed, all but row col, and left the others.
 use Prim.Native.Nat.{◌-◌}
 use native.Mathlib.Omega.{arith}
-use Rattle.inverse.proofs.Rows.{Reducing, reducing-none, reducing-stored, reducing-kept, reducing-all}
+use Rattle.inverse.proofs.Rows.{reducing-none, reducing-stored, reducing-kept, reducing-all}
 use Rattle.inverse.proofs.reduce_rows.Goals as goal
 use Rattle.inverse.proofs.reduce_rows.Goals.{then-i-col, else-i-col}
 

@@ -1,5 +1,4 @@
 -- `rows_two` meets its contract: the rows, written out.
-use borrow.Author.Rules.{rules}
 use Rattle.algebra.specs.Array.{pad}
 use Rattle.inverse.proofs.rows_two.Goals as goal
 

@@ -1,7 +1,6 @@
 -- `scale_row` meets its contract: the kernel makes the row that is stored.
 use mathlib.Core.Path.{ap}
 use lib.ListN.{set}
-use borrow.Author.Rules.{rules}
 use Rattle.inverse.proofs.scale_row.Goals as goal
 
 pub returns : goal.returns

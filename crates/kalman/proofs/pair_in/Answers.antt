@@ -1,7 +1,6 @@
 -- `pair_in` meets its contract.
 use Rattle.algebra.specs.Array.{cut}
 use Rattle.filtering.specs.Filter.{estimate}
-use borrow.Author.Rules.{rules}
 use Rattle.kalman.proofs.pair_in.Goals as goal
 
 pub returns : goal.returns

@@ -3,7 +3,6 @@ use mathlib.Core.Path.{◌∙◌}
 use Rattle.algebra.specs.Array.{cut, used_flat}
 use Rattle.filtering.specs.Linear.{predict}
 use Rattle.kalman.proofs.Steps.{road_predicted}
-use borrow.Author.Rules.{rules}
 use Rattle.kalman.proofs.predict_road.Goals as goal
 
 pub returns : goal.returns

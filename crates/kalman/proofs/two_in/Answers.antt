@@ -1,7 +1,6 @@
 -- `two_in` meets its contract.
 use mathlib.Core.Path.{refl}
 use Rattle.algebra.specs.Array.{used_flat}
-use borrow.Author.Rules.{rules}
 use Rattle.kalman.proofs.two_in.Goals as goal
 
 pub returns : goal.returns

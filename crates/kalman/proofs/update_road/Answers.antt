@@ -6,7 +6,6 @@ use Rattle.road.specs.Road.{estimate_of}
 use Rattle.road.proofs.Roads.{corrected_by_lem}
 use Rattle.kalman.proofs.Ways.{road_answered, road_refused}
 use Rattle.kalman.proofs.Steps.{road_update}
-use borrow.Author.Rules.{rules}
 use Rattle.kalman.proofs.update_road.Goals as goal
 
 pub returns-in-Value : goal.returns-in-Value

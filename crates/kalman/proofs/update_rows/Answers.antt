@@ -2,7 +2,6 @@
 use Rattle.filtering.proofs.Shapes.{way}
 use Rattle.kalman.proofs.Ways.{rows-answered, rows-refused}
 use Rattle.kalman.proofs.Steps.{read-update}
-use borrow.Author.Rules.{rules}
 use Rattle.kalman.proofs.update_rows.Goals as goal
 
 pub returns-in-Done : goal.returns-in-Done

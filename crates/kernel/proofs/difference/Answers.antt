@@ -3,7 +3,6 @@ use mathlib.Core.Path.{◌∙◌}
 use Rattle.scalar.specs.Number.{◌⊖◌}
 use Rattle.algebra.specs.Matrix.{sub, vec_sub}
 use Rattle.rows.proofs.Kernels.{leading_both}
-use borrow.Author.Rules.{rules}
 use Rattle.kernel.proofs.difference.Goals as goal
 
 pub returns : goal.returns

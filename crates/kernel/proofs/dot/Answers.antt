@@ -1,10 +1,9 @@
 -- `dot` meets its contract: a turn of the loop is a term of the sum, which starts at +0.
-use Prim.Native.Nat.{◌-◌, ◌≤◌}
+use Prim.Native.Nat.{◌-◌}
 use mathlib.Core.Path.{refl, sym, ◌∙◌}
-use Rattle.scalar.specs.Number.{◌⊗◌, +0}
 use Rattle.answer.proofs.Choice.{cond-true, cond-false}
-use Rattle.algebra.specs.Matrix.{at, dot}
-use Rattle.algebra.proofs.Matrices.{Summing, summing_none, summing_more, summing_all}
+use Rattle.algebra.specs.Matrix.{dot}
+use Rattle.algebra.proofs.Matrices.{summing_none, summing_more, summing_all}
 use borrow.Author.Tests.{le-leb, lt-leb}
 use native.Mathlib.Omega.{arith}
 use Rattle.kernel.proofs.dot.Goals as goal

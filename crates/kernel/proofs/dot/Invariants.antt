@@ -1,12 +1,8 @@
 -- What the loop of `dot` keeps.
 use Prim.Native.Nat.{◌-◌, ◌≤◌}
-use mathlib.Core.Path.{refl, sym, ◌∙◌}
 use Rattle.scalar.specs.Number.{◌⊗◌, +0}
-use Rattle.answer.proofs.Choice.{cond-true, cond-false}
-use Rattle.algebra.specs.Matrix.{at, dot}
-use Rattle.algebra.proofs.Matrices.{Summing, summing_none, summing_more, summing_all}
-use borrow.Author.Tests.{le-leb, lt-leb}
-use native.Mathlib.Omega.{arith}
+use Rattle.algebra.specs.Matrix.{at}
+use Rattle.algebra.proofs.Matrices.{Summing}
 use Rattle.kernel.proofs.dot.Given as goal
 
 abbrev pub invariant-loop-i : goal.invariant-loop-i

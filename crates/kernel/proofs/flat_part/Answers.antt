@@ -1,6 +1,5 @@
 -- `flat_part` meets its contract: the used part, laid flat.
 use mathlib.Core.Path.{ap, ◌∙◌}
-use borrow.Author.Rules.{rules}
 use Rattle.algebra.specs.Array.{flat_of_rows}
 use Rattle.kernel.proofs.flat_part.Goals as goal
 

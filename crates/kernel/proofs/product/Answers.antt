@@ -1,7 +1,7 @@
 -- `product` meets its contract: row after row is written out, up to the number of rows.
 use Prim.Native.Nat.{ℕ}
 use mathlib.Core.Path.{◌≡◌, ◌∙◌}
-use mathlib.Core.List.{List, [], ◌∷◌}
+use mathlib.Core.List.{List, ◌∷◌}
 use lib.ListN.{replicate}
 use lib.Ieee.{Float}
 use Rattle.scalar.specs.Number.{◌⊗◌, +0}
@@ -13,7 +13,6 @@ use Rattle.sizes.specs.Size.{count}
 use Rattle.rows.specs.Row.{row_times}
 use Rattle.sizes.proofs.Sizes.{bounds, exactly, is_one, is_four}
 use Rattle.rows.proofs.Kernels.{leading_row}
-use borrow.Author.Rules.{rules}
 use Rattle.kernel.proofs.product.Lts as lts
 use Rattle.kernel.proofs.product.Tie as tie
 use Rattle.kernel.proofs.product.Reads as reads

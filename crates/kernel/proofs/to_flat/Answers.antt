@@ -1,10 +1,8 @@
 -- `to_flat` meets its contract: a turn stores one number (`Filling`).
-use Prim.Native.Nat.{◌-◌, ◌/◌, ◌%◌}
+use Prim.Native.Nat.{◌-◌}
 use mathlib.Core.Path.{refl}
-use Rattle.scalar.specs.Number.{+0}
-use Rattle.algebra.specs.Matrix.{cell}
 use Rattle.algebra.specs.Array.{flat_of_rows}
-use Rattle.answer.proofs.Tables.{Filling, filling-none, filling-more, filling-all}
+use Rattle.answer.proofs.Tables.{filling-none, filling-more, filling-all}
 use native.Mathlib.Omega.{arith}
 use Rattle.kernel.proofs.to_flat.Goals as goal
 

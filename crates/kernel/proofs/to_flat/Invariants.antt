@@ -1,11 +1,8 @@
 -- What the loop of `to_flat` keeps.
 use Prim.Native.Nat.{◌-◌, ◌/◌, ◌%◌}
-use mathlib.Core.Path.{refl}
 use Rattle.scalar.specs.Number.{+0}
 use Rattle.algebra.specs.Matrix.{cell}
-use Rattle.algebra.specs.Array.{flat_of_rows}
-use Rattle.answer.proofs.Tables.{Filling, filling-none, filling-more, filling-all}
-use native.Mathlib.Omega.{arith}
+use Rattle.answer.proofs.Tables.{Filling}
 use Rattle.kernel.proofs.to_flat.Given as goal
 
 abbrev pub invariant-loop-n : goal.invariant-loop-n

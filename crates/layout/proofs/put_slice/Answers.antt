@@ -2,8 +2,7 @@
 use mathlib.Core.Path.{refl}
 use Prim.Native.Nat.{◌-◌}
 use native.Mathlib.Omega.{arith}
-use lib.ListN.{length}
-use Rattle.layout.proofs.Loops.{Copying, copying_none, copying_more, copying_all}
+use Rattle.layout.proofs.Loops.{copying_none, copying_more, copying_all}
 use Rattle.layout.proofs.Calls.{there_is, found, missed}
 use Rattle.layout.proofs.put_slice.Goals as goal
 

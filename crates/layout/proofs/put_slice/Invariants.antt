@@ -1,10 +1,7 @@
 -- What the loop of `put_slice` keeps.
-use mathlib.Core.Path.{refl}
 use Prim.Native.Nat.{◌-◌}
-use native.Mathlib.Omega.{arith}
 use lib.ListN.{length}
-use Rattle.layout.proofs.Loops.{Copying, copying_none, copying_more, copying_all}
-use Rattle.layout.proofs.Calls.{there_is, found, missed}
+use Rattle.layout.proofs.Loops.{Copying}
 use Rattle.layout.proofs.put_slice.Given as goal
 
 abbrev pub invariant-loop-i : goal.invariant-loop-i

@@ -1,6 +1,5 @@
 -- `put_vector` meets its contract.
 use mathlib.Core.Path.{sym, ◌∙◌}
-use borrow.Author.Rules.{rules}
 use Rattle.algebra.proofs.Arrays.{length_cut}
 use Rattle.layout.proofs.Calls.{there_is, found, missed}
 use Rattle.layout.proofs.put_vector.Goals as goal

@@ -5,7 +5,7 @@ use native.Mathlib.Omega.{arith}
 use lib.ListN.{length}
 use Rattle.answer.specs.Table.{table}
 use Rattle.algebra.specs.Array.{pad}
-use Rattle.algebra.proofs.Arrays.{Rows, rows_none, rows_more, rows_all}
+use Rattle.algebra.proofs.Arrays.{rows_none, rows_more, rows_all}
 use Rattle.sizes.specs.Size.{count}
 use Rattle.sizes.proofs.Sizes.{bounds}
 use Rattle.layout.specs.Layout.{vector_at}

@@ -1,15 +1,8 @@
 -- What the loop of `read_matrix` keeps.
-use mathlib.Core.Path.{refl, ap₂, ◌∙◌}
-use Prim.Native.Nat.{ℕ, ◌+◌, ◌*◌, ◌-◌, ◌≤◌}
-use native.Mathlib.Omega.{arith}
-use lib.ListN.{length}
-use Rattle.answer.specs.Table.{table}
-use Rattle.algebra.specs.Array.{pad}
-use Rattle.algebra.proofs.Arrays.{Rows, rows_none, rows_more, rows_all}
+use Prim.Native.Nat.{◌+◌, ◌*◌, ◌-◌, ◌≤◌}
+use Rattle.algebra.proofs.Arrays.{Rows}
 use Rattle.sizes.specs.Size.{count}
-use Rattle.sizes.proofs.Sizes.{bounds}
 use Rattle.layout.specs.Layout.{vector_at}
-use Rattle.layout.proofs.Rows.{row_ends}
 use Rattle.layout.proofs.read_matrix.Given as goal
 
 abbrev pub invariant-loop-i : goal.invariant-loop-i

@@ -1,16 +1,15 @@
 -- `write_matrix` meets its contract: the loop places the rows one after another.
 use mathlib.Core.Path.{refl, sym, ap, ap₂, ◌∙◌}
-use Prim.Native.Nat.{ℕ, ◌+◌, ◌*◌, ◌-◌, ◌≤◌}
+use Prim.Native.Nat.{ℕ, ◌*◌, ◌-◌}
 use native.Mathlib.Omega.{arith}
-use lib.ListN.{length}
 use Rattle.answer.specs.Table.{table}
 use Rattle.algebra.specs.Matrix.{row}
-use Rattle.algebra.specs.Array.{cut, used}
+use Rattle.algebra.specs.Array.{used}
 use Rattle.algebra.proofs.Arrays.{length_cut}
-use Rattle.sizes.specs.Size.{count, front}
+use Rattle.sizes.specs.Size.{front}
 use Rattle.sizes.proofs.Sizes.{bounds}
 use Rattle.layout.specs.Layout.{joined, placed}
-use Rattle.layout.proofs.Loops.{Putting, putting_none, putting_room, putting_more, putting_all}
+use Rattle.layout.proofs.Loops.{putting_none, putting_room, putting_more, putting_all}
 use Rattle.layout.proofs.write_matrix.Goals as goal
 
 pub loop-i-init : goal.loop-i-init

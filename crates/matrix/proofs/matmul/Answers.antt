@@ -1,5 +1,5 @@
 -- `matmul` meets its contract: the sizes of a call whose test is passed are those of the kernel.
-use mathlib.Core.Path.{◌≡◌, sym, ◌∙◌}
+use mathlib.Core.Path.{sym, ◌∙◌}
 use Rattle.algebra.specs.Matrix.{mul}
 use Rattle.algebra.specs.Array.{used, pad}
 use Rattle.sizes.proofs.Sizes.{chained-sizes, is_count}

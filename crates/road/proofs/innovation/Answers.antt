@@ -2,7 +2,6 @@
 use Rattle.matrix.proofs.Results.{answered-value, refused-number}
 use Rattle.small_inverse.specs.Two.{inv_number}
 use Rattle.road.proofs.Roads.{variance, when_answered, when_refused}
-use borrow.Author.Rules.{rules}
 use Rattle.road.proofs.innovation.Goals as goal
 
 pub returns-in-Value : goal.returns-in-Value

@@ -1,11 +1,9 @@
 -- `root::is_nearest` meets its contract: q is split into two halves, whose products fit; by them the last two tests are those of the nearest root.
 use mathlib.Core.Path.{◌≡◌, subst}
-use mathlib.Core.Bool.{false≢true}
 use Prim.Native.Nat.{ℕ, ◌+◌, ◌-◌, ◌*◌, ◌/◌, ◌%◌, ◌^◌, ◌≤◌, ◌<◌}
 use native.Mathlib.Nat.{lt_of_le_of_lt, mul-le-mul, div-add-mod', sub-add_cancel}
 use native.Mathlib.Omega.{arith}
 use lib.Dec.{lit<}
-use borrow.Author.Rules.{rules}
 use borrow.Author.Tests.{leb-true}
 use Rattle.root.specs.Weights.{hidden, past54}
 use Rattle.root.specs.Root.{nearest_root}

@@ -1,13 +1,11 @@
 -- `root::is_root` meets its contract: by the exponent's field and the nearest significand.
 use mathlib.Core.Path.{sym, ap, ◌∙◌, subst}
-use mathlib.Core.Bool.{false≢true}
 use Prim.Native.Nat.{◌+◌, ◌-◌, ◌*◌, ◌/◌, ◌%◌, ◌<◌}
 use native.Mathlib.Nat.{add-sub_of_le}
 use native.Mathlib.Omega.{arith}
 use lib.Dec.{T}
 use lib.Ieee.{binary64, fits, to_bits, of_bits}
 use lib.Ieee.Bits.{of_bits-to_bits}
-use borrow.Author.Rules.{rules}
 use Rattle.root.specs.Weights.{hidden, past54}
 use Rattle.root.proofs.Patterns.{at_normal, itself}
 use Rattle.root.proofs.Scaled.{code_lt, guess_root}

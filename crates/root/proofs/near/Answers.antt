@@ -2,7 +2,6 @@
 use native.Mathlib.Omega.{arith}
 use lib.Ieee.{binary64}
 use lib.Ieee.Fits.{mul-fits}
-use borrow.Author.Rules.{rules}
 use Rattle.root.proofs.Patterns.{itself, up_to, plain-bits}
 use Rattle.root.proofs.near.Goals as goal
 

@@ -1,7 +1,6 @@
 -- `normal` meets its contract.
 use mathlib.Core.Path.{sym, ◌∙◌}
 use Rattle.root.proofs.Roots.{normal-root}
-use borrow.Author.Rules.{rules}
 use Rattle.root.proofs.normal.Goals as goal
 
 pub returns : goal.returns

@@ -1,6 +1,5 @@
 -- `root::pack` meets its contract.
 use native.Mathlib.Omega.{arith}
-use borrow.Author.Rules.{rules}
 use Rattle.root.proofs.Patterns.{at_normal, plain-bits}
 use Rattle.root.proofs.pack.Goals as goal
 

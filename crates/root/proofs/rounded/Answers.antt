@@ -4,7 +4,6 @@ use Prim.Native.Nat.{◌+◌, ◌-◌, ◌*◌, ◌%◌, ◌≤◌, ◌<◌}
 use Rattle.root.specs.Weights.{past53, past54}
 use Rattle.root.proofs.Scaled.{code_lt, code-bounds, code-root}
 use native.Mathlib.Omega.{arith}
-use borrow.Author.Rules.{rules}
 use Rattle.root.proofs.rounded.Lts as lts
 use Rattle.root.proofs.rounded.Tie as tie
 use Rattle.root.proofs.rounded.Reads as reads

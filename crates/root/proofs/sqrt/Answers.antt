@@ -7,7 +7,6 @@ use lib.Ieee as Ieee
 use lib.Ieee.{Float, nan, binary64, fits, to_bits, of_bits}
 use lib.Ieee.Bits.{of_bits-to_bits, to_bits-lt}
 use lib.Ieee.Compare.{differs_from_itself}
-use borrow.Author.Rules.{rules}
 use Rattle.root.specs.Root.{root}
 use Rattle.root.proofs.Patterns.{itself, up_to}
 use Rattle.root.proofs.Roots.{Same, is_same, plus-zero, minus-zero, infinite, negative-root, of_nan}

@@ -1,13 +1,12 @@
 -- `combination` meets its contract: four sums, written out term by term up to the number of terms.
 use Prim.Native.Nat.{ℕ}
 use mathlib.Core.Path.{◌≡◌, refl}
-use mathlib.Core.List.{List, [], ◌∷◌}
+use mathlib.Core.List.{List, ◌∷◌}
 use lib.Ieee.{Float}
 use Rattle.algebra.specs.Matrix.{row}
 use Rattle.rows.specs.Row.{row_times}
 use Rattle.rows.proofs.Kernels.{sums, sums_none, sums-more, sums_at}
 use Rattle.sizes.proofs.Sizes.{exactly, is_one, is_four}
-use borrow.Author.Rules.{rules}
 use Rattle.rows.proofs.combination.Lts as lts
 use Rattle.rows.proofs.combination.Tie as tie
 use Rattle.rows.proofs.combination.Reads as reads

@@ -1,5 +1,4 @@
 -- `leading` meets its contract: each way out writes the row for one size.
-use native.Mathlib.Omega.{arith}
 use Rattle.algebra.specs.Array.{cut}
 use Rattle.sizes.proofs.Sizes.{exactly, is_one, is_four}
 use Rattle.rows.proofs.Kernels.{leading_at}

@@ -1,7 +1,7 @@
 -- `leading_rows` meets its contract: row after row is written out, up to the number of rows.
 use Prim.Native.Nat.{ℕ}
 use mathlib.Core.Path.{refl}
-use mathlib.Core.List.{List, [], ◌∷◌}
+use mathlib.Core.List.{List, ◌∷◌}
 use lib.ListN.{replicate}
 use lib.Ieee.{Float}
 use Rattle.scalar.specs.Number.{+0}
@@ -10,7 +10,6 @@ use Rattle.algebra.specs.Array.{cut, used}
 use Rattle.algebra.proofs.Arrays.{rows_at}
 use Rattle.sizes.specs.Size.{count}
 use Rattle.sizes.proofs.Sizes.{exactly, is_one, is_four}
-use borrow.Author.Rules.{rules}
 use Rattle.rows.proofs.leading_rows.Lts as lts
 use Rattle.rows.proofs.leading_rows.Tie as tie
 use Rattle.rows.proofs.leading_rows.Reads as reads

@@ -1,6 +1,5 @@
 -- `row_difference` meets its contract: both lists are the four differences.
 use mathlib.Core.Path.{refl}
-use native.Mathlib.Omega.{arith}
 use Rattle.algebra.specs.Matrix.{vec_sub}
 use Rattle.rows.proofs.row_difference.Goals as goal
 

@@ -1,6 +1,5 @@
 -- `row_plus_scaled` meets its contract: both lists are the four sums.
 use mathlib.Core.Path.{refl}
-use native.Mathlib.Omega.{arith}
 use Rattle.rows.specs.Row.{plus_scaled}
 use Rattle.rows.proofs.row_plus_scaled.Goals as goal
 

@@ -4,7 +4,6 @@ use Rattle.algebra.specs.Matrix.{row}
 use Rattle.rows.specs.Row.{row_times}
 use Rattle.rows.proofs.Kernels.{combination_is}
 use Rattle.sizes.proofs.Sizes.{bounds}
-use borrow.Author.Rules.{rules}
 use Rattle.rows.proofs.row_product.Goals as goal
 
 pub returns : goal.returns

@@ -4,7 +4,6 @@ use Rattle.algebra.specs.Matrix.{cell}
 use Rattle.rows.specs.Row.{row_times_transposed}
 use Rattle.rows.proofs.Kernels.{combination_is}
 use Rattle.sizes.proofs.Sizes.{bounds}
-use borrow.Author.Rules.{rules}
 use Rattle.rows.proofs.row_product_transposed.Goals as goal
 
 pub returns : goal.returns

@@ -1,6 +1,5 @@
 -- `row_scaled` meets its contract: both lists are the four products.
 use mathlib.Core.Path.{refl}
-use native.Mathlib.Omega.{arith}
 use Rattle.algebra.specs.Matrix.{vec_scale}
 use Rattle.rows.proofs.row_scaled.Goals as goal
 

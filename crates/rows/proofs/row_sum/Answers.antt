@@ -1,6 +1,5 @@
 -- `row_sum` meets its contract: both lists are the four sums.
 use mathlib.Core.Path.{refl}
-use native.Mathlib.Omega.{arith}
 use Rattle.algebra.specs.Matrix.{vec_add}
 use Rattle.rows.proofs.row_sum.Goals as goal
 

@@ -1,12 +1,11 @@
 -- `transposed` meets its contract: the columns are the rows.
 use mathlib.Core.Path.{sym, ap, ◌∙◌}
-use mathlib.Core.List.{[], ◌∷◌}
+use mathlib.Core.List.{◌∷◌}
 use Rattle.algebra.specs.Matrix.{cell}
 use Rattle.algebra.specs.Array.{pad}
 use Rattle.algebra.proofs.Arrays.{used-mat, transpose-used}
 use Rattle.sizes.specs.Size.{part}
 use Rattle.sizes.proofs.Sizes.{bounds}
-use borrow.Author.Rules.{rules}
 use Rattle.rows.proofs.transposed.Goals as goal
 
 pub returns : goal.returns

@@ -3,7 +3,6 @@ use mathlib.Core.Path.{ap, ◌∙◌}
 use Rattle.algebra.specs.Array.{pad}
 use Rattle.algebra.proofs.Arrays.{used-four}
 use Rattle.sizes.proofs.Sizes.{bounds}
-use borrow.Author.Rules.{rules}
 use Rattle.rows.proofs.used_part.Goals as goal
 
 pub returns : goal.returns

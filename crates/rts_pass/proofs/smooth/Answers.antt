@@ -5,7 +5,6 @@ use Prim.Native.Nat.{◌≤◌}
 use native.Mathlib.Omega.{arith}
 use lib.ListN.{length}
 use lib.Seq.{length-take-le}
-use borrow.Author.Rules.{rules}
 use Rattle.sizes.specs.Size.{count}
 use Rattle.sizes.proofs.Sizes.{is_count}
 use Rattle.duty.specs.Buffer.{smoothable}

@@ -3,11 +3,10 @@ use mathlib.Core.Path.{◌≡◌, refl, sym, ap, ap₂, ◌∙◌, subst, subst�
 use Prim.Native.Nat.{ℕ, ◌+◌, ◌*◌, ◌-◌, ◌≤◌}
 use native.Mathlib.Omega.{arith}
 use lib.ListN.{length}
-use borrow.Author.Rules.{rules}
 use Rattle.algebra.specs.Array.{used}
 use Rattle.sizes.specs.Size.{count, part}
 use Rattle.filtering.specs.Filter.{Estimate, estimate}
-use Rattle.steps.specs.Step.{estimate_rows, arrays_of}
+use Rattle.steps.specs.Step.{arrays_of}
 use Rattle.layout.specs.Layout.{pair_length, stride}
 use Rattle.layout.proofs.Calls.{few}
 use Rattle.smoothing.specs.Smoother.{smooth_slots}

@@ -3,7 +3,6 @@ use Prim.Native.Nat.{◌+◌, ◌*◌, ◌≤◌, ℕ}
 use native.Mathlib.Omega.{arith}
 use mathlib.Core.Path.{ap}
 use lib.ListN.{length}
-use borrow.Author.Rules.{rules}
 use Rattle.rts_pass.proofs.Steps.{step-done, step-refused}
 use Rattle.rts_pass.proofs.step.Lts as lts
 use Rattle.rts_pass.proofs.step.Tie as tie

@@ -1,5 +1,4 @@
 -- `smooth_two` meets its contract: by what the inversion answers.
-use borrow.Author.Rules.{rules}
 use Rattle.rts_road.proofs.Slots.{two-done, two-refused}
 use Rattle.rts_road.proofs.smooth_two.Goals as goal
 

@@ -1,7 +1,6 @@
 -- `put_slot` meets its contract: the predicted pair stands right after the filtered one.
 use Prim.Native.Nat.{◌+◌}
 use native.Mathlib.Omega.{arith}
-use borrow.Author.Rules.{rules}
 use Rattle.sizes.proofs.Sizes.{bounds_of, is_count}
 use Rattle.layout.specs.Layout.{pair_length}
 use Rattle.duty.proofs.Pairs.{pair-placed}

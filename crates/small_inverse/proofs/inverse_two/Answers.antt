@@ -1,5 +1,5 @@
 -- `inverse_two` meets its contract: by the test of the two magnitudes, the rows stay or change places.
-use mathlib.Core.Path.{sym, ap, ◌∙◌}
+use mathlib.Core.Path.{ap, ◌∙◌}
 use Rattle.algebra.specs.Matrix.{two_by_two}
 use Rattle.matrix.specs.Result.{as_matrix}
 use Rattle.small_inverse.specs.Two.{from_diagonal}

@@ -1,6 +1,5 @@
 -- `reset_in` meets its contract: by the test of the sizes, and what Cholesky answers.
 use mathlib.Core.Path.{sym, ap, ◌∙◌}
-use borrow.Author.Rules.{rules}
 use Rattle.algebra.specs.Array.{flat_of_rows}
 use Rattle.algebra.specs.Cholesky.{cholesky}
 use Rattle.algebra.proofs.Factors.{shape-cholesky}

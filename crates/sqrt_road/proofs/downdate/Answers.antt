@@ -2,7 +2,6 @@
 use Rattle.scalar.specs.Number.{◌⊖◌, ◌⊗◌}
 use Rattle.matrix.proofs.Results.{answered-value, refused-number}
 use Rattle.filtering.specs.SquareRoot.{turned_diagonal}
-use borrow.Author.Rules.{rules}
 use Rattle.sqrt_road.proofs.Downdates.{turned, first-refused, second-refused, downdated}
 use Rattle.sqrt_road.proofs.downdate.Goals as goal
 

@@ -1,7 +1,6 @@
 -- `factor_of` meets its contract: by its two diagonals.
 use mathlib.Core.Path.{sym, ◌∙◌}
 use Rattle.road.specs.Road.{matrix_of}
-use borrow.Author.Rules.{rules}
 use Rattle.sqrt_road.proofs.Factor.{first-refused, second-refused, found}
 use Rattle.sqrt_road.proofs.factor_of.Goals as goal
 

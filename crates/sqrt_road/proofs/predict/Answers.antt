@@ -1,5 +1,4 @@
 -- `predict` meets its contract: the linear filter's step from the covariance, and its factor.
-use borrow.Author.Rules.{rules}
 use Rattle.sqrt_road.proofs.Ways.{predicted}
 use Rattle.sqrt_road.proofs.predict.Goals as goal
 

@@ -1,7 +1,6 @@
 -- `told` meets its contract: by the answer.
 use mathlib.Core.Path.{sym, ap}
 use Rattle.answer.specs.declared.Status.{Status}
-use borrow.Author.Rules.{rules}
 use Rattle.sqrt_road.specs.Road.{told_of}
 use Rattle.sqrt_road.proofs.told.Goals as goal
 

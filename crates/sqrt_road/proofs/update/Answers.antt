@@ -1,7 +1,6 @@
 -- `update` meets its contract: by the variance, and by what the downdate answers.
 use Rattle.matrix.proofs.Results.{answered-value, refused-number}
 use Rattle.filtering.specs.SquareRoot.{variance}
-use borrow.Author.Rules.{rules}
 use Rattle.sqrt_road.proofs.Ways.{sum, not_updated, updated}
 use Rattle.sqrt_road.proofs.update.Goals as goal
 

@@ -1,5 +1,4 @@
 -- `component` meets its contract: by what the test of the variance answers, and the downdate's status.
-use borrow.Author.Rules.{rules}
 use Rattle.sqrt_steps.proofs.Components.{innovation_is, when_done, when_failed, when_refused}
 use Rattle.sqrt_steps.proofs.component.Goals as goal
 

@@ -1,10 +1,9 @@
 -- `covariance` meets its contract: its rows, each made by itself.
 use native.Mathlib.Omega.{arith}
 use mathlib.Core.Path.{◌≡◌, sym, ap, ◌∙◌}
-use mathlib.Core.List.{List, [], ◌∷◌}
+use mathlib.Core.List.{List, ◌∷◌}
 use Prim.Native.Nat.{ℕ, zero, suc, ◌<◌}
 use lib.Ieee.{Float}
-use borrow.Author.Rules.{rules}
 use Rattle.answer.proofs.Tables.{table_ext}
 use Rattle.algebra.specs.Matrix.{Matrix, row, mul, transpose}
 use Rattle.algebra.specs.Array.{cut, used, pad}

@@ -1,11 +1,10 @@
 -- `downdate` meets its contract: each turn rotates the definition's next column, or is its refusal.
-use mathlib.Core.Path.{◌≡◌, sym, subst}
-use Prim.Native.Nat.{ℕ, ◌-◌, ◌≤◌, ◌<◌}
+use mathlib.Core.Path.{subst}
+use Prim.Native.Nat.{ℕ, ◌-◌, ◌<◌}
 use native.Mathlib.Omega.{arith}
-use borrow.Author.Rules.{rules}
 use Rattle.sizes.specs.Size.{count}
 use Rattle.sizes.proofs.Sizes.{bounds}
-use Rattle.sqrt_steps.proofs.Downdates.{Turning, turning_none, turning_more, turning_refused, turning_all}
+use Rattle.sqrt_steps.proofs.Downdates.{turning_none, turning_more, turning_refused, turning_all}
 use Rattle.sqrt_steps.proofs.downdate.Lts as lts
 use Rattle.sqrt_steps.proofs.downdate.Tie as tie
 use Rattle.sqrt_steps.proofs.downdate.Reads as reads

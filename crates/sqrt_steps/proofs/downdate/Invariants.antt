@@ -1,11 +1,8 @@
 -- What the loop of `downdate` keeps.
-use mathlib.Core.Path.{◌≡◌, sym, subst}
-use Prim.Native.Nat.{ℕ, ◌-◌, ◌≤◌, ◌<◌}
-use native.Mathlib.Omega.{arith}
-use borrow.Author.Rules.{rules}
+use mathlib.Core.Path.{◌≡◌}
+use Prim.Native.Nat.{◌-◌, ◌≤◌}
 use Rattle.sizes.specs.Size.{count}
-use Rattle.sizes.proofs.Sizes.{bounds}
-use Rattle.sqrt_steps.proofs.Downdates.{Turning, turning_none, turning_more, turning_refused, turning_all}
+use Rattle.sqrt_steps.proofs.Downdates.{Turning}
 use Rattle.sqrt_steps.proofs.downdate.Given as goal
 
 abbrev pub invariant-loop-k : goal.invariant-loop-k

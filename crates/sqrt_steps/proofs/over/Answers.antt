@@ -1,6 +1,5 @@
 -- `over` meets its contract: both lists are the four quotients.
 use mathlib.Core.Path.{refl}
-use native.Mathlib.Omega.{arith}
 use Rattle.filtering.specs.SquareRoot.{vec_over}
 use Rattle.sqrt_steps.proofs.over.Goals as goal
 

@@ -1,8 +1,6 @@
 -- `rotate` meets its contract: by what the diagonal's test answers.
 use mathlib.Core.Path.{refl}
-use Prim.Native.Nat.{◌<◌}
 use native.Mathlib.Omega.{arith}
-use borrow.Author.Rules.{rules}
 use Rattle.sizes.proofs.Sizes.{bounds}
 use Rattle.matrix.proofs.Results.{answered-value, refused-number}
 use Rattle.sqrt_steps.proofs.Columns.{when_turned, when_refused}

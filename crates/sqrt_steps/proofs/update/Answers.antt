@@ -1,9 +1,8 @@
 -- `update` meets its contract: each turn takes in the definition's next component, or is its refusal.
-use Prim.Native.Nat.{◌-◌, ◌≤◌}
+use Prim.Native.Nat.{◌-◌}
 use native.Mathlib.Omega.{arith}
-use borrow.Author.Rules.{rules}
 use Rattle.sizes.proofs.Sizes.{bounds}
-use Rattle.sqrt_steps.proofs.Updates.{Taking, taking_none, taking_more, taking_refused, taking_all, by_size}
+use Rattle.sqrt_steps.proofs.Updates.{taking_none, taking_more, taking_refused, taking_all, by_size}
 use Rattle.sqrt_steps.proofs.update.Goals as goal
 
 pub loop-i-init : goal.loop-i-init

@@ -1,9 +1,6 @@
 -- What the loop of `update` keeps.
 use Prim.Native.Nat.{◌-◌, ◌≤◌}
-use native.Mathlib.Omega.{arith}
-use borrow.Author.Rules.{rules}
-use Rattle.sizes.proofs.Sizes.{bounds}
-use Rattle.sqrt_steps.proofs.Updates.{Taking, taking_none, taking_more, taking_refused, taking_all, by_size}
+use Rattle.sqrt_steps.proofs.Updates.{Taking}
 use Rattle.sqrt_steps.proofs.update.Given as goal
 
 abbrev pub invariant-loop-i : goal.invariant-loop-i

@@ -1,13 +1,11 @@
 -- `corrected_covariance` meets its contract: a loop over the rows, each made by itself.
-use Prim.Native.Nat.{ℕ, ◌-◌, ◌≤◌, ◌<◌}
+use Prim.Native.Nat.{ℕ, ◌-◌, ◌<◌}
 use native.Mathlib.Omega.{arith}
-use mathlib.Core.Path.{◌≡◌, subst}
-use Rattle.algebra.specs.Matrix.{row}
-use Rattle.algebra.proofs.Arrays.{Rows, rows_none, rows_more, rows_all}
-use Rattle.sizes.specs.Size.{count, part}
+use mathlib.Core.Path.{subst}
+use Rattle.algebra.proofs.Arrays.{rows_none, rows_more, rows_all}
+use Rattle.sizes.specs.Size.{count}
 use Rattle.sizes.proofs.Sizes.{bounds}
 use Rattle.rows.proofs.RowWise.{rows_are}
-use Rattle.filtering.specs.Filter.{corrected_covariance}
 use Rattle.filtering.proofs.Shapes.{shape-corrected_covariance}
 use Rattle.four_states.proofs.Parts.{corrected-row}
 use Rattle.steps.proofs.corrected_covariance.Goals as goal

@@ -1,15 +1,10 @@
 -- What the loop of `corrected_covariance` keeps.
-use Prim.Native.Nat.{ℕ, ◌-◌, ◌≤◌, ◌<◌}
-use native.Mathlib.Omega.{arith}
-use mathlib.Core.Path.{◌≡◌, subst}
+use Prim.Native.Nat.{◌-◌, ◌≤◌}
+use mathlib.Core.Path.{◌≡◌}
 use Rattle.algebra.specs.Matrix.{row}
-use Rattle.algebra.proofs.Arrays.{Rows, rows_none, rows_more, rows_all}
+use Rattle.algebra.proofs.Arrays.{Rows}
 use Rattle.sizes.specs.Size.{count, part}
-use Rattle.sizes.proofs.Sizes.{bounds}
-use Rattle.rows.proofs.RowWise.{rows_are}
 use Rattle.filtering.specs.Filter.{corrected_covariance}
-use Rattle.filtering.proofs.Shapes.{shape-corrected_covariance}
-use Rattle.four_states.proofs.Parts.{corrected-row}
 use Rattle.steps.proofs.corrected_covariance.Given as goal
 
 abbrev pub invariant-loop-i : goal.invariant-loop-i

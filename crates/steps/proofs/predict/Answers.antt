@@ -1,7 +1,6 @@
 -- `predict` meets its contract: its two parts.
 use Rattle.filtering.specs.Filter.{predicted_state}
 use Rattle.filtering.specs.Linear.{predict}
-use borrow.Author.Rules.{rules}
 use Rattle.steps.proofs.predict.Goals as goal
 
 pub returns : goal.returns

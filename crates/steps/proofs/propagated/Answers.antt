@@ -1,11 +1,10 @@
 -- `propagated` meets its contract: four states are written out; else a loop over the rows, each made by itself.
-use Prim.Native.Nat.{ℕ, ◌-◌, ◌≤◌, ◌<◌}
+use Prim.Native.Nat.{ℕ, ◌-◌, ◌<◌}
 use native.Mathlib.Omega.{arith}
 use mathlib.Core.Path.{◌≡◌, sym, subst, ◌∙◌}
-use Rattle.algebra.specs.Matrix.{row}
 use Rattle.algebra.specs.Array.{used, pad}
-use Rattle.algebra.proofs.Arrays.{Rows, rows_none, rows_more, rows_all}
-use Rattle.sizes.specs.Size.{count, part}
+use Rattle.algebra.proofs.Arrays.{rows_none, rows_more, rows_all}
+use Rattle.sizes.specs.Size.{count}
 use Rattle.sizes.proofs.Sizes.{bounds}
 use Rattle.rows.proofs.RowWise.{rows_are}
 use Rattle.filtering.specs.Filter.{propagated}

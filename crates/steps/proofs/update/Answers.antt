@@ -12,7 +12,6 @@ use Rattle.filtering.specs.Linear.{update}
 use Rattle.matrix.proofs.Results.{was_answered, was_refused}
 use Rattle.steps.specs.Step.{updated_rows}
 use Rattle.steps.proofs.Ways.{S, inversion, when_answered, when_refused}
-use borrow.Author.Rules.{rules}
 use Rattle.steps.proofs.update.Goals as goal
 
 -- the sizes that are written out

@@ -1,25 +1,22 @@
 -- `textbook` meets its contract: a walk of its MIR, by hand, since the borrow checker reads only facts of `Type 0`. It returns (), beside the statements.
 use mathlib.Core.Path.{refl}
-use mathlib.Core.List.{List, [], ◌∷◌}
+use mathlib.Core.List.{List, ◌∷◌}
 use seplogic.Ra.Ura.{Ura}
 use mir.Val.{Val, vunit}
 use base.Logic.{SProp, ent, sep, emp, via, fst∗, emp∗, comm∗, mono_l}
 use base.Fml.{ftrue}
 use prog.Memory.{Memory}
 use prog.Routine.{Routine}
-use prog.Wp.{Calls, Loops, WpFn, Tables}
+use prog.Wp.{Calls, Loops, WpFn}
 use types.Logic.{Logic}
 use contract.Monad.{Fun, fact, fact_i}
 use contract.Running.{tables}
 use types.Kit.{‵, ◌$◌, ◌∵◌, !, qed, by, keep, suffices, feq_i, done}
 use types.Run.{look, init, forget, stop, from, unit_lit, of_opd, assigns, returns, enter, alloc1, alloc0, params1, pass0, free1, free0}
-use sound.WpLaws.{WpFn-mono}
 use denote.RattleType.{owns}
 use denote.Steps.{nothing}
 use denote.Triple.Entry.{on_entry}
-use denote.Triple.Spec.{Meets, triple_of}
-use denote.Triple.Table.{entered}
-use denote.Triple.Walked.{walk_of, Walks, ends_at, walked, walk_Meets}
+use denote.Triple.Walked.{walk_of, ends_at}
 use Rattle.textbook.specs.Textbook.{Textbook}
 use Rattle.std.proofs.raw_atomic.Walks.{proved}
 use Rattle.textbook.proofs.Statements.{statements}

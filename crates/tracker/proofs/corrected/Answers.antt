@@ -1,5 +1,4 @@
 -- `corrected` meets its contract: by whether there is a reading, and what the update answers.
-use borrow.Author.Rules.{rules}
 use Rattle.road.specs.Road.{estimate_of}
 use Rattle.road.proofs.Roads.{corrected_by_lem}
 use Rattle.tracker.specs.Tracked.{sensor_in}

@@ -1,12 +1,10 @@
 -- `filter` meets its contract: by the loop's record, `Storing`.
 use Prim.Native.Nat.{◌-◌}
 use native.Mathlib.Omega.{arith}
-use borrow.Author.Rules.{rules}
 use Rattle.road.specs.Road.{estimate_of}
-use Rattle.tracker.specs.Tracked.{motion_in, sensor_in, measured_of}
 use Rattle.tracking.specs.Track.{slot_of}
 use Rattle.tracker.proofs.Readings.{filtered-done, filtered-refused}
-use Rattle.tracker.proofs.Storing.{Storing, storing_start, storing_more, storing_stop, storing_all}
+use Rattle.tracker.proofs.Storing.{storing_start, storing_more, storing_stop, storing_all}
 use Rattle.tracker.proofs.filter.Goals as goal
 
 pub loop-k-init : goal.loop-k-init

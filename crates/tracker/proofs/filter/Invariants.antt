@@ -1,12 +1,8 @@
 -- What the loop of `filter` keeps.
 use Prim.Native.Nat.{◌-◌}
-use native.Mathlib.Omega.{arith}
-use borrow.Author.Rules.{rules}
 use Rattle.road.specs.Road.{estimate_of}
 use Rattle.tracker.specs.Tracked.{motion_in, sensor_in, measured_of}
-use Rattle.tracking.specs.Track.{slot_of}
-use Rattle.tracker.proofs.Readings.{filtered-done, filtered-refused}
-use Rattle.tracker.proofs.Storing.{Storing, storing_start, storing_more, storing_stop, storing_all}
+use Rattle.tracker.proofs.Storing.{Storing}
 use Rattle.tracker.proofs.filter.Given as goal
 
 abbrev pub invariant-loop-k : goal.invariant-loop-k

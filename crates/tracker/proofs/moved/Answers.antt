@@ -1,5 +1,4 @@
 -- `moved` meets its contract: the predict.
-use borrow.Author.Rules.{rules}
 use Rattle.road.specs.Road.{estimate_of}
 use Rattle.tracker.specs.Tracked.{motion_in}
 use Rattle.tracker.proofs.Readings.{moved_is}

@@ -1,7 +1,6 @@
 -- `smoothed` meets its contract: by what the call of `smooth` tells.
 use mathlib.Core.Path.{◌≡◌}
 use native.Mathlib.Omega.{arith}
-use borrow.Author.Rules.{rules}
 use lib.ListN.{length}
 use Rattle.tracker.proofs.Told.{told-done, told-rejected, told_none}
 use Rattle.tracker.proofs.smoothed.Lts as lts

@@ -4,7 +4,6 @@ use mathlib.Core.Logic.{inl, inr}
 use Prim.Native.Nat.{◌≤◌}
 use native.Mathlib.Omega.{arith}
 use lib.ListN.{take}
-use borrow.Author.Rules.{rules}
 use Rattle.tracker.proofs.Ways.{first_of, track-rejected, track-smoothed}
 use Rattle.tracker.proofs.track.Lts as lts
 use Rattle.tracker.proofs.track.Tie as tie

@@ -6,7 +6,6 @@ use Rattle.scalar.specs.Number.{◌⊕◌}
 use Rattle.answer.specs.Table.{table}
 use Rattle.algebra.specs.Matrix.{at, cell}
 use Rattle.imm_steps.specs.Bank.{spread_term}
-use borrow.Author.Rules.{rules}
 use Rattle.c_bank.proofs.spread.mixed_pair.Goals as goal
 
 pub returns : goal.returns

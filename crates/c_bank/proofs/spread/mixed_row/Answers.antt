@@ -1,16 +1,10 @@
 -- `spread::mixed_row` meets its contract: a turn adds the term of one model, in all four columns.
-use Prim.Native.Nat.{ℕ, ◌-◌, ◌≤◌, ◌<◌}
-use mathlib.Core.Path.{◌≡◌, sym}
-use mathlib.Core.List.{List}
+use Prim.Native.Nat.{◌-◌}
+use mathlib.Core.Path.{sym}
 use native.Mathlib.Numerals.{add-one}
 use native.Mathlib.Omega.{arith}
-use lib.Ieee.{Float}
-use Rattle.algebra.specs.Matrix.{cell}
-use Rattle.sizes.specs.Size.{count}
 use Rattle.sizes.proofs.Sizes.{bounds}
-use Rattle.imm_steps.specs.Bank.{spread_term}
-use Rattle.imm_steps.proofs.Ways.{columns, columns-none, columns-more, columns_at}
-use borrow.Author.Rules.{rules}
+use Rattle.imm_steps.proofs.Ways.{columns-none, columns-more, columns_at}
 use Rattle.c_bank.proofs.spread.mixed_row.Invariants.{term}
 use Rattle.c_bank.proofs.spread.mixed_row.Goals as goal
 

@@ -1,16 +1,12 @@
 -- What the loop of `mixed_row` keeps.
 use Prim.Native.Nat.{ℕ, ◌-◌, ◌≤◌, ◌<◌}
-use mathlib.Core.Path.{◌≡◌, sym}
+use mathlib.Core.Path.{◌≡◌}
 use mathlib.Core.List.{List}
-use native.Mathlib.Numerals.{add-one}
-use native.Mathlib.Omega.{arith}
 use lib.Ieee.{Float}
 use Rattle.algebra.specs.Matrix.{cell}
 use Rattle.sizes.specs.Size.{count}
-use Rattle.sizes.proofs.Sizes.{bounds}
 use Rattle.imm_steps.specs.Bank.{spread_term}
-use Rattle.imm_steps.proofs.Ways.{columns, columns-none, columns-more, columns_at}
-use borrow.Author.Rules.{rules}
+use Rattle.imm_steps.proofs.Ways.{columns}
 use Rattle.c_bank.proofs.spread.mixed_row.Given as goal
 
 -- term i of column c

@@ -1,7 +1,7 @@
 -- `matrix_identity` meets its contract.
 use mathlib.Core.Path.{refl}
 use Rattle.algebra.proofs.Matrices.{shape-identity}
-use Rattle.c_slices.proofs.Ways.{one_of, matrix-handed, refuses, none}
+use Rattle.c_slices.proofs.Ways.{one_of, matrix-handed, refuses}
 use Rattle.c_matrix.proofs.cells.matrix_identity.Goals as goal
 
 pub returns-then-is_matrix : goal.returns-then-is_matrix

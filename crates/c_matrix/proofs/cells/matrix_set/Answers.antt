@@ -2,7 +2,7 @@
 use mathlib.Core.Path.{refl}
 use Rattle.algebra.specs.Matrix.{set_cell}
 use Rattle.algebra.proofs.Matrices.{shape-set}
-use Rattle.c_slices.proofs.Ways.{both_of, both-passed, two_of, matrix-handed, refuses, none}
+use Rattle.c_slices.proofs.Ways.{both_of, both-passed, two_of, matrix-handed, refuses}
 use Rattle.c_matrix.proofs.cells.matrix_set.Goals as goal
 
 pub returns-then-both : goal.returns-then-both

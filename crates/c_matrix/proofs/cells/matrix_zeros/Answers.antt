@@ -1,6 +1,5 @@
 -- `matrix_zeros` meets its contract.
 use Rattle.algebra.specs.Matrix.{zeros}
-use Rattle.c_slices.proofs.Ways.{none}
 use Rattle.c_matrix.proofs.cells.matrix_zeros.Goals as goal
 
 pub returns : goal.returns

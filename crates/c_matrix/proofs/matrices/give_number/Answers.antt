@@ -2,7 +2,6 @@
 use mathlib.Core.Path.{sym, ap, ◌∙◌}
 use mathlib.Core.List.{List}
 use lib.Ieee.{Float}
-use borrow.Author.Rules.{rules}
 use Rattle.answer.specs.Answer.{mapped}
 use Rattle.answer.specs.Told.{given}
 use Rattle.matrix.specs.declared.ScalarResult.{ScalarResult}

@@ -1,7 +1,7 @@
 -- `matrix_add_mat` meets its contract.
 use Rattle.algebra.specs.Matrix.{add}
 use Rattle.algebra.proofs.Matrices.{shape-add}
-use Rattle.c_slices.proofs.Ways.{rows_at, cols_at, three_of, matrix_in_lem, matrix-made, refuses, none}
+use Rattle.c_slices.proofs.Ways.{rows_at, cols_at, three_of, matrix_in_lem, matrix-made, refuses}
 use Rattle.c_matrix.proofs.matrices.matrix_add_mat.Goals as goal
 
 pub returns-then-are_three_matrices : goal.returns-then-are_three_matrices

@@ -8,7 +8,7 @@ use Rattle.sizes.specs.Size.{count}
 use Rattle.sizes.proofs.Sizes.{bounds, bounds_of}
 use Rattle.c_slices.specs.Slices.{rows}
 use Rattle.c_matrix.proofs.Products.{rows_in}
-use Rattle.c_slices.proofs.Ways.{Two, two_of, rows_at, answer-handed, if_refuses, none}
+use Rattle.c_slices.proofs.Ways.{Two, two_of, rows_at, answer-handed, if_refuses}
 use Rattle.c_matrix.proofs.matrices.matrix_cholesky.Lts as lts
 use Rattle.c_matrix.proofs.matrices.matrix_cholesky.Tie as tie
 use Rattle.c_matrix.proofs.matrices.matrix_cholesky.Reads as reads

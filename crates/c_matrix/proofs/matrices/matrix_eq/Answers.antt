@@ -1,6 +1,6 @@
 -- `matrix_eq` meets its contract.
 use Rattle.algebra.specs.Matrix.{equal}
-use Rattle.c_slices.proofs.Ways.{two_of, bool_handed, alike-true, refuses, none}
+use Rattle.c_slices.proofs.Ways.{two_of, bool_handed, alike-true, refuses}
 use Rattle.c_matrix.proofs.matrices.matrix_eq.Goals as goal
 
 pub returns-then-are_two_matrices : goal.returns-then-are_two_matrices

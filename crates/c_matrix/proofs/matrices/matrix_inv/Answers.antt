@@ -5,7 +5,7 @@ use Rattle.algebra.specs.Inverse.{inv}
 use Rattle.algebra.proofs.Inverses.{inv-shape}
 use Rattle.small_inverse.specs.Two.{inv_number}
 use Rattle.small_inverse.proofs.Two.{number_is}
-use Rattle.c_slices.proofs.Ways.{Two, two_of, rows_at, matrix_in_lem, answer-handed, one-long, number-answered, if_refuses, none}
+use Rattle.c_slices.proofs.Ways.{Two, two_of, rows_at, matrix_in_lem, answer-handed, one-long, number-answered, if_refuses}
 use Rattle.c_matrix.proofs.matrices.matrix_inv.Lts as lts
 use Rattle.c_matrix.proofs.matrices.matrix_inv.Tie as tie
 use Rattle.c_matrix.proofs.matrices.matrix_inv.Reads as reads

@@ -3,7 +3,7 @@ use mathlib.Core.Path.{refl, sym, ap₂, ◌∙◌}
 use Prim.Native.Nat.{ℕ, ◌*◌}
 use Rattle.answer.specs.Answer.{answered, where_sized}
 use Rattle.c_slices.specs.Calls.{product_in}
-use Rattle.c_slices.proofs.Ways.{Three, three_of, rows_at, cols_at, told, refuses, none}
+use Rattle.c_slices.proofs.Ways.{Three, three_of, rows_at, cols_at, told, refuses}
 use Rattle.c_matrix.proofs.matrices.matrix_matmul.Lts as lts
 use Rattle.c_matrix.proofs.matrices.matrix_matmul.Tie as tie
 use Rattle.c_matrix.proofs.matrices.matrix_matmul.Reads as reads

@@ -1,6 +1,5 @@
 -- `matrix_neg` meets its contract.
 use Rattle.algebra.specs.Matrix.{negated}
-use Rattle.c_slices.proofs.Ways.{none}
 use Rattle.c_matrix.proofs.matrices.matrix_neg.Goals as goal
 
 pub returns : goal.returns

@@ -1,7 +1,7 @@
 -- `matrix_scale` meets its contract.
 use Rattle.algebra.specs.Matrix.{scale}
 use Rattle.algebra.proofs.Matrices.{shape-scale}
-use Rattle.c_slices.proofs.Ways.{two_of, matrix-handed, refuses, none}
+use Rattle.c_slices.proofs.Ways.{two_of, matrix-handed, refuses}
 use Rattle.c_matrix.proofs.matrices.matrix_scale.Goals as goal
 
 pub returns-then-are_two_matrices : goal.returns-then-are_two_matrices

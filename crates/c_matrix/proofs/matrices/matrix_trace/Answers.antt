@@ -1,6 +1,6 @@
 -- `matrix_trace` meets its contract.
 use Rattle.algebra.specs.Matrix.{trace}
-use Rattle.c_slices.proofs.Ways.{one_of, number-handed, refuses, none}
+use Rattle.c_slices.proofs.Ways.{one_of, number-handed, refuses}
 use Rattle.c_matrix.proofs.matrices.matrix_trace.Goals as goal
 
 pub returns-then-is_matrix : goal.returns-then-is_matrix

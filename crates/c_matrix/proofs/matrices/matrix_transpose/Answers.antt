@@ -1,7 +1,7 @@
 -- `matrix_transpose` meets its contract.
 use Rattle.algebra.specs.Matrix.{transpose}
 use Rattle.algebra.proofs.Matrices.{shape-transpose}
-use Rattle.c_slices.proofs.Ways.{rows_at, cols_at, two_of, matrix_in_lem, matrix-made, refuses, none}
+use Rattle.c_slices.proofs.Ways.{rows_at, cols_at, two_of, matrix_in_lem, matrix-made, refuses}
 use Rattle.c_matrix.proofs.matrices.matrix_transpose.Goals as goal
 
 pub returns-then-are_two_matrices : goal.returns-then-are_two_matrices

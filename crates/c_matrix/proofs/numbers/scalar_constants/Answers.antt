@@ -1,6 +1,6 @@
 -- `scalar_constants` meets its contract.
 use mathlib.Core.Path.{◌≡◌, refl, sym, ap, ◌∙◌}
-use mathlib.Core.List.{List, [], ◌∷◌}
+use mathlib.Core.List.{List, ◌∷◌}
 use native.Mathlib.Omega.{arith}
 use lib.ListN.{length}
 use lib.Ieee.{Float}
@@ -10,7 +10,7 @@ use Rattle.answer.specs.Answer.{answered, where_sized}
 use Rattle.layout.proofs.Places.{placed-whole}
 use Rattle.layout.proofs.Calls.{slice-put}
 use Rattle.c_slices.specs.Calls.{constant_numbers}
-use Rattle.c_slices.proofs.Ways.{told, refuses, none}
+use Rattle.c_slices.proofs.Ways.{told, refuses}
 use Rattle.c_matrix.proofs.numbers.scalar_constants.Goals as goal
 
 pub returns-then-out-eq6 : goal.returns-then-out-eq6

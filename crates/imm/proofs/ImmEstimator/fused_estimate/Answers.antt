@@ -5,7 +5,6 @@ use Rattle.sizes.proofs.Sizes.{is_count}
 use Rattle.matrix.proofs.Results.{vector-answered, vector-refused}
 use Rattle.steps.proofs.Sizes.{well_sized_lem}
 use Rattle.imm_steps.proofs.Holders.{fused-held}
-use Rattle.imm.specs.Record.{bank_of}
 use Rattle.imm.proofs.Records.{held, probabilities_are}
 use Rattle.imm.proofs.ImmEstimator.fused_estimate.Goals as goal
 

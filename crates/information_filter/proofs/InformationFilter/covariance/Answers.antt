@@ -10,7 +10,6 @@ use Rattle.filtering.specs.Information.{covariance}
 use Rattle.steps.proofs.Sizes.{well_sized_lem}
 use Rattle.steps.proofs.Flats.{read}
 use Rattle.information_filter.specs.Record.{held}
-use borrow.Author.Rules.{rules}
 use Rattle.information_filter.proofs.InformationFilter.covariance.Goals as goal
 
 pub returns-then-is_well_sized : goal.returns-then-is_well_sized

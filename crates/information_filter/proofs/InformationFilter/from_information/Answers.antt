@@ -6,7 +6,6 @@ use Rattle.matrix.proofs.Results.{as_answered, as_refused}
 use Rattle.steps.proofs.Sizes.{well_sized_lem}
 use Rattle.steps.proofs.Flats.{leading_of, flat_of}
 use Rattle.information_filter.specs.Record.{made}
-use borrow.Author.Rules.{rules}
 use Rattle.information_filter.proofs.InformationFilter.from_information.Goals as goal
 
 pub returns-then-is_well_sized : goal.returns-then-is_well_sized

@@ -2,7 +2,6 @@
 use Rattle.answer.specs.Told.{status_of}
 use Rattle.steps.proofs.Records.{around}
 use Rattle.information_filter.specs.Record.{flats_of, keeping, fusing}
-use borrow.Author.Rules.{rules}
 use Rattle.information_filter.proofs.InformationFilter.fuse_sensor.Goals as goal
 
 pub returns : goal.returns

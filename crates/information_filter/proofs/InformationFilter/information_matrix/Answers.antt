@@ -6,7 +6,6 @@ use Rattle.sizes.proofs.Sizes.{is_count}
 use Rattle.matrix.proofs.Results.{matrix-answered, matrix-refused}
 use Rattle.steps.proofs.Sizes.{well_sized_lem}
 use Rattle.steps.proofs.Flats.{read}
-use borrow.Author.Rules.{rules}
 use Rattle.information_filter.proofs.InformationFilter.information_matrix.Goals as goal
 
 pub returns-then-is_well_sized : goal.returns-then-is_well_sized

@@ -4,7 +4,6 @@ use Rattle.sizes.proofs.Sizes.{is_count}
 use Rattle.matrix.proofs.Results.{vector-answered, vector-refused}
 use Rattle.steps.proofs.Sizes.{well_sized_lem}
 use Rattle.steps.proofs.Flats.{leading_of}
-use borrow.Author.Rules.{rules}
 use Rattle.information_filter.proofs.InformationFilter.information_vector.Goals as goal
 
 pub returns-then-is_well_sized : goal.returns-then-is_well_sized

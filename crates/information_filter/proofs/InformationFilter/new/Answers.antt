@@ -1,6 +1,5 @@
 -- `new` meets its contract: by the status of what is made of the estimate.
 use mathlib.Core.Path.{sym, ◌∙◌}
-use mathlib.Core.List.{[]}
 use Rattle.answer.specs.declared.Status.TheVariants.{Refused}
 use Rattle.answer.specs.Answer.{mapped}
 use Rattle.answer.specs.Outcome.{into, handed}
@@ -14,7 +13,6 @@ use Rattle.steps.proofs.Sizes.{well_sized_lem}
 use Rattle.information_steps.specs.Step.{arrays_of}
 use Rattle.information_filter.specs.Record.{record_of, made}
 use Rattle.information_filter.proofs.Ways.{new-made, new-refused}
-use borrow.Author.Rules.{rules}
 use Rattle.information_filter.proofs.InformationFilter.new.Goals as goal
 
 pub returns-in-Done : goal.returns-in-Done

@@ -2,7 +2,6 @@
 use Rattle.answer.specs.Told.{status_of}
 use Rattle.steps.proofs.Records.{around}
 use Rattle.information_filter.specs.Record.{flats_of, keeping, resetting}
-use borrow.Author.Rules.{rules}
 use Rattle.information_filter.proofs.InformationFilter.reset.Goals as goal
 
 pub returns : goal.returns

@@ -1,5 +1,5 @@
 -- `state` meets its contract.
-use mathlib.Core.Path.{sym, ap, ◌∙◌}
+use mathlib.Core.Path.{sym, ◌∙◌}
 use Rattle.sizes.specs.Size.{count}
 use Rattle.matrix.specs.Result.{as_vector}
 use Rattle.sizes.proofs.Sizes.{is_count}
@@ -8,7 +8,6 @@ use Rattle.filtering.specs.Information.{state}
 use Rattle.steps.proofs.Sizes.{well_sized_lem}
 use Rattle.information_filter.specs.Record.{information_flat, held}
 use Rattle.information_filter.proofs.Ways.{read-information}
-use borrow.Author.Rules.{rules}
 use Rattle.information_filter.proofs.InformationFilter.state.Goals as goal
 
 pub returns-then-is_well_sized : goal.returns-then-is_well_sized

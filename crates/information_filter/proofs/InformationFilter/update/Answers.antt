@@ -3,7 +3,6 @@ use Rattle.algebra.specs.Array.{cut}
 use Rattle.matrix.specs.Result.{as_vector}
 use Rattle.steps.proofs.Records.{around}
 use Rattle.information_filter.specs.Record.{flats_of, keeping, updating}
-use borrow.Author.Rules.{rules}
 use Rattle.information_filter.proofs.InformationFilter.update.Goals as goal
 
 pub returns : goal.returns

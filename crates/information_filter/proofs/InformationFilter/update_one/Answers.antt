@@ -1,6 +1,5 @@
 -- `update_one` meets its contract: what `update` tells, read as a number.
 use Rattle.information_filter.proofs.One.{one-answered, one-refused}
-use borrow.Author.Rules.{rules}
 use Rattle.information_filter.proofs.InformationFilter.update_one.Goals as goal
 
 pub returns-in-Done : goal.returns-in-Done

@@ -1,9 +1,9 @@
 -- `position_velocity` meets its contract: the numbers of the road's filter, laid flat.
-use mathlib.Core.Path.{◌≡◌, ap, ◌∙◌}
-use mathlib.Core.List.{[], ◌∷◌}
+use mathlib.Core.Path.{ap, ◌∙◌}
+use mathlib.Core.List.{◌∷◌}
 use Rattle.scalar.specs.Number.{+0}
 use Rattle.algebra.specs.Array.{pad}
-use Rattle.road.specs.Road.{Filter, road_of}
+use Rattle.road.specs.Road.{Filter}
 use Rattle.kalman.specs.declared.KalmanFilter.{KalmanFilter}
 use Rattle.kalman.specs.Record.{record_of}
 use Rattle.kalman.proofs.KalmanFilter.position_velocity.Goals as goal

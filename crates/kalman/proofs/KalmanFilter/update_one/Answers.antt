@@ -1,6 +1,5 @@
 -- `update_one` meets its contract: what `update` tells, read as a number.
 use Rattle.kalman.proofs.One.{one-answered, one-refused}
-use borrow.Author.Rules.{rules}
 use Rattle.kalman.proofs.KalmanFilter.update_one.Goals as goal
 
 pub returns-in-Done : goal.returns-in-Done

@@ -2,13 +2,11 @@
 use mathlib.Core.Path.{◌≡◌, refl, sym, ap, ◌∙◌}
 use Prim.Native.Nat.{◌-◌}
 use native.Mathlib.Omega.{arith}
-use borrow.Author.Rules.{rules}
 use Rattle.answer.specs.Answer.{answered}
 use Rattle.algebra.specs.Array.{cut, used}
-use Rattle.road.specs.Road.{estimate_of}
 use Rattle.duty.specs.Buffer.{slot_from, slot_at}
 use Rattle.rts_road.specs.Slot.{slot_of_two}
-use Rattle.duty.proofs.Passes.{left-done, left-refused, Going, going_start, going_room, going_more, going_stop, going_done}
+use Rattle.duty.proofs.Passes.{left-done, left-refused, going_start, going_room, going_more, going_stop, going_done}
 use Rattle.rts_pass.proofs.two.smooth_slots_two.Lts as lts
 use Rattle.rts_pass.proofs.two.smooth_slots_two.Tie as tie
 use Rattle.rts_pass.proofs.two.smooth_slots_two.Reads as reads

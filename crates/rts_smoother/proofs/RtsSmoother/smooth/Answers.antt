@@ -1,6 +1,5 @@
 -- `RtsSmoother::smooth` meets its contract.
 use mathlib.Core.Path.{refl, ◌∙◌}
-use borrow.Author.Rules.{rules}
 use borrow.Author.Tests.{eq-eqb, ne_eqb}
 use Rattle.matrix.proofs.Results.{if_answered, if_refused}
 use Rattle.duty.specs.Passed.{smooth_left}

@@ -1,6 +1,5 @@
 -- `new` meets its contract: by the test of the sizes, and what Cholesky answers.
 use mathlib.Core.Path.{sym, ◌∙◌}
-use borrow.Author.Rules.{rules}
 use Rattle.algebra.specs.Cholesky.{cholesky}
 use Rattle.algebra.proofs.Factors.{shape-cholesky}
 use Rattle.sizes.specs.Size.{count, part}

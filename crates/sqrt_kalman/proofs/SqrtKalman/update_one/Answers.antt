@@ -1,5 +1,4 @@
 -- `update_one` meets its contract: what `update` tells, read as a number.
-use borrow.Author.Rules.{rules}
 use Rattle.sqrt_kalman.proofs.One.{one-answered, one-refused}
 use Rattle.sqrt_kalman.proofs.SqrtKalman.update_one.Goals as goal
 

@@ -8,7 +8,6 @@ use Rattle.matrix.specs.Result.{as_matrix}
 use Rattle.small_inverse.specs.Two.{in_rows}
 use Rattle.matrix.proofs.Results.{was_answered, was_refused}
 use Rattle.steps.proofs.Ways.{S, inversion, when_answered, when_refused}
-use borrow.Author.Rules.{rules}
 use Rattle.steps.proofs.four.update.Lts as lts
 use Rattle.steps.proofs.four.update.Tie as tie
 use Rattle.steps.proofs.four.update.Reads as reads

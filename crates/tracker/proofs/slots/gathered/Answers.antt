@@ -4,8 +4,7 @@ use Prim.Native.Nat.{ℕ, ◌+◌, ◌*◌, ◌-◌, ◌≤◌, ◌<◌}
 use native.Mathlib.Nat.{mul-le-mul_right, le_trans, le_of_lt}
 use native.Mathlib.Omega.{arith}
 use Rattle.scalar.specs.Number.{+0}
-use Rattle.answer.proofs.Tables.{Filling, filling-none, filling-more, filling-all}
-use Rattle.algebra.specs.Matrix.{at}
+use Rattle.answer.proofs.Tables.{filling-none, filling-more, filling-all}
 use Rattle.layout.proofs.Rows.{ends-within}
 use Rattle.tracker.proofs.slots.gathered.Goals as goal
 

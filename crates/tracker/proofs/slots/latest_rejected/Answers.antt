@@ -1,8 +1,7 @@
 -- `latest_rejected` meets its contract: by the loop's record, `Searching`.
 use mathlib.Core.Path.{refl}
 use native.Mathlib.Omega.{arith}
-use borrow.Author.Rules.{rules}
-use Rattle.tracker.proofs.Searching.{rejected-two, accepted_two, Searching, searching-start, searching-more, searching-found, searching-none}
+use Rattle.tracker.proofs.Searching.{rejected-two, accepted_two, searching-start, searching-more, searching-found, searching-none}
 use Rattle.tracker.proofs.slots.latest_rejected.Goals as goal
 
 pub loop-k-preserved : goal.loop-k-preserved

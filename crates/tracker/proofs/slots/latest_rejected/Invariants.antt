@@ -1,8 +1,5 @@
 -- What the loop of `latest_rejected` keeps.
-use mathlib.Core.Path.{refl}
-use native.Mathlib.Omega.{arith}
-use borrow.Author.Rules.{rules}
-use Rattle.tracker.proofs.Searching.{rejected-two, accepted_two, Searching, searching-start, searching-more, searching-found, searching-none}
+use Rattle.tracker.proofs.Searching.{Searching}
 use Rattle.tracker.proofs.slots.latest_rejected.Given as goal
 
 abbrev pub invariant-loop-k : goal.invariant-loop-k
