@@ -1,6 +1,6 @@
 -- Laws of arrays of four of which a part is used: `used` and `pad` undo each other, and a loop over the rows. Assumes nothing.
 use mathlib.Core.Path.{◌≡◌, refl, sym, ap, ◌∙◌, subst, ap₂, subst⁻¹}
-use mathlib.Core.List.{List, ◌∷◌, map, ◌++◌, map-append}
+use mathlib.Core.List.{List, [], ◌∷◌, map, ◌++◌, map-append}
 use Prim.Native.Nat.{ℕ, zero, suc, ◌+◌, ◌≤◌, ◌<◌, ◌*◌, ◌/◌, ◌%◌}
 use native.Mathlib.Nat.{not-suc-le-zero, le_of_suc-le-suc, le_trans}
 use native.Mathlib.Omega.{arith}

@@ -14,7 +14,7 @@ use Rattle.answer.specs.Table.{table}
 use Rattle.algebra.specs.Matrix.{Vector, Matrix, at, row, cell, mat, sum_from, sum_of, mul, matvec, transpose, identity, filled, zeros, scale, negated, set_cell, add, outer, sub}
 use Rattle.answer.proofs.Tables.{length-table, get_or-table, table_ext}
 use mathlib.Core.Logic.{⊎_elim}
-use mathlib.Core.List.{◌∷◌, ◌++◌}
+use mathlib.Core.List.{◌∷◌, ◌++◌, []}
 
 -- ---- sums
 pub sum_from_ext : {s u : Float} (n : ℕ) (f g : ℕ → Float) → s ≡ u → ((t : ℕ) → t < n → f t ≡ g t) → sum_from s n f ≡ sum_from u n g

@@ -12,7 +12,7 @@ ghost use Rattle.algebra.specs.Array.{pad_row};
 ghost use Rattle.sizes.specs.Size.{count, front};
 ghost use Rattle.layout.specs.Layout.{vector_at, joined, placed, model_length};
 ghost use Rattle.steps.specs.Step.{well_sized};
-ghost use Rattle.c_bank.specs.Bank.{probabilities_place, is_bank, series, mixed_row_in, mixed_rows_in, mix_in, probabilities_in, fused_in, probability_in};
+ghost use Rattle.c_bank.specs.Bank.{model_place, probabilities_place, is_bank, series, mixed_row_in, mixed_rows_in, mix_in, probabilities_in, fused_in, probability_in};
 
 use sizes::{Size, number, size_of};
 
@@ -26,6 +26,14 @@ fn model_length(n: usize) -> usize
     ensures { (result ≡ model_length n) × (result ≤ 53) }
 {
     n * n + (n + n * n) + n * n + 1
+}
+
+// Where part x of model i begins.
+fn state_place(n: usize, i: usize) -> usize
+    requires { (n ≤ 4) × (i ≤ 4) }
+    ensures { (result ≡ model_place n i 1) × (result ≤ 228) }
+{
+    i * model_length(n) + n * n
 }
 
 // Where the probabilities begin.

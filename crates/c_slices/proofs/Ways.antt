@@ -1,7 +1,7 @@
 -- The ways in and out of a call on slices: what a test that is passed says of them, what is read from one, and what is told and left in the
 -- lent place. `told` is the law of all calls; the laws after it say what it asks for by the place and by how the result was made. Assumes nothing.
 use mathlib.Core.Path.{◌≡◌, refl, sym, ap, ◌∙◌}
-use mathlib.Core.List.{List, ◌∷◌}
+use mathlib.Core.List.{List, [], ◌∷◌}
 use mathlib.Core.Bool.{Bool, true, false, ◌&&◌}
 use Prim.Native.Nat.{ℕ, ◌*◌}
 use native.Mathlib.Omega.{arith}

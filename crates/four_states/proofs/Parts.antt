@@ -1,7 +1,7 @@
 -- A row of a part's result, by the kernels that make it: for the loops over any size, and where four states are written out. Assumes nothing.
 use Prim.Native.Nat.{ℕ, ◌<◌}
 use mathlib.Core.Path.{◌≡◌, sym, ◌∙◌}
-use mathlib.Core.List.{List, ◌∷◌}
+use mathlib.Core.List.{List, [], ◌∷◌}
 use lib.Ieee.{Float}
 use Rattle.algebra.specs.Matrix.{Matrix, row, identity, add, sub, mul, transpose, vec_add, vec_sub}
 use Rattle.algebra.specs.Array.{pad_row, used}

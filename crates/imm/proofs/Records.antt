@@ -1,6 +1,6 @@
 -- The rows that are read from a record are the bank that it holds, and the record around what a step leaves of them. Assumes nothing.
 use mathlib.Core.Path.{◌≡◌, ap, ap₂, ◌∙◌}
-use mathlib.Core.List.{List}
+use mathlib.Core.List.{List, []}
 use Prim.Native.Nat.{ℕ}
 use native.Mathlib.Nat.{le_trans}
 use lib.ListN.{get_or}

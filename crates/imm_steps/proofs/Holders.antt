@@ -1,6 +1,6 @@
 -- A bank that is held elsewhere, as a record or in a slice: a step on the rows read from it is the step on what it holds. Assumes nothing.
 use mathlib.Core.Path.{◌≡◌, refl, sym, ◌∙◌}
-use mathlib.Core.List.{List}
+use mathlib.Core.List.{List, []}
 use Prim.Native.Nat.{ℕ}
 use lib.Ieee.{Float}
 use Rattle.algebra.specs.Matrix.{Vector, Matrix}

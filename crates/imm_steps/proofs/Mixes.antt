@@ -1,7 +1,7 @@
 -- A turn of the loop over the models makes a mixed estimate; all turns make the mixed bank. Assumes nothing.
 use mathlib.Core.Path.{◌≡◌, refl, sym, ap, ap₂, ◌∙◌}
 use mathlib.Core.Bool.{cond}
-use mathlib.Core.List.{List}
+use mathlib.Core.List.{List, []}
 use Prim.Native.Nat.{ℕ, ◌≤◌, ◌<◌}
 use lib.ListN.{length, replicate}
 use lib.Ieee.{Float, nan, lt}

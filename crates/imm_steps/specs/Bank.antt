@@ -40,13 +40,9 @@ spread_cell p d i r c = cell (get_or p i []) r c ⊕ (+0 ⊕ cell d i r ⊗ cell
 abbrev pub share_of : Float → Float → Float → Float
 share_of m t c = cond (lt epsilon c) (m ⊗ t ⊘ c) +0
 
--- a number s of a covariance and its spread, times w: d is the deviation of its row, and x and u are the states' numbers of its column
-abbrev pub spread_by : Float → Float → Float → Float → Float → Float
-spread_by s d x u w = (s ⊕ (+0 ⊕ d ⊗ (x ⊖ u))) ⊗ w
-
--- the same by the numbers x and y of the states, and u and v of the mixed state
+-- a number s of a covariance and the spread between the numbers x and y of the states, less those of the mixed state, times w
 abbrev pub spread_term : Float → Float → Float → Float → Float → Float → Float
-spread_term s x u y v w = spread_by s (x ⊖ u) y v w
+spread_term s x u y v w = (s ⊕ (+0 ⊕ (x ⊖ u) ⊗ (y ⊖ v))) ⊗ w
 
 -- row i of w has the weights of model i, for the transition t, the probabilities μ and the predicted ones c
 abbrev pub Shares : Size → Rows → List Float → List Float → Rows → Type 0

@@ -13,7 +13,7 @@ ghost use Rattle.sizes.specs.Size.{count, front, part};
 ghost use Rattle.rows.specs.Row.{row_times};
 ghost use Rattle.mixing.specs.Mixing.{uniform as uniform_of, predicted as predicted_of, weighted as weighted_of, mixed_covariance};
 ghost use Rattle.mixing.specs.Mixing.{update_probabilities};
-ghost use Rattle.imm_steps.specs.Bank.{bank_rows, mixed_rows, spread_cell, spread_by, share_of, Shares, States};
+ghost use Rattle.imm_steps.specs.Bank.{bank_rows, mixed_rows, spread_cell, share_of, Shares, States};
 
 use rows::pick;
 use scalar::ControlScalar;
@@ -202,7 +202,7 @@ pub fn mixed_states<'a>(x: &'a [[f64; 4]; 4], w: &'a [[f64; 4]; 4], k: Size) -> 
 
 // s and a row p of a covariance with its spread, times w: x is the state, m the mixed state, and y the deviation of the row.
 pub fn plus_spread(s: [f64; 4], p: [f64; 4], x: [f64; 4], m: [f64; 4], y: f64, w: f64) -> [f64; 4]
-    ensures { result ≡ table 4 (λ c. at s c ⊕ spread_by (at p c) y (at x c) (at m c) w) }
+    ensures { result ≡ table 4 (λ c. at s c ⊕ (at p c ⊕ (+0 ⊕ y ⊗ (at x c ⊖ at m c))) ⊗ w) }
 {
     [
         s[0] + (p[0] + (0.0 + y * (x[0] - m[0]))) * w,

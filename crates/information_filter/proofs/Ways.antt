@@ -1,6 +1,6 @@
 -- Steps on rows are steps on a record's numbers, which stand flat; and the ways out of the methods. Assumes nothing.
 use mathlib.Core.Path.{◌≡◌, refl, sym, ap, ◌∙◌}
-use mathlib.Core.List.{List}
+use mathlib.Core.List.{List, []}
 use mathlib.Core.Bool.{Bool, true, false, ◌&&◌}
 use Prim.Native.Nat.{ℕ}
 use lib.ListN.{length}

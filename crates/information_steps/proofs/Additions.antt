@@ -1,7 +1,7 @@
 -- A row of what is added to the matrix, by the kernels that make it: for a loop over any size, and where four states are written out. Assumes nothing.
 use Prim.Native.Nat.{ℕ, ◌<◌}
 use mathlib.Core.Path.{◌≡◌, ap, ◌∙◌}
-use mathlib.Core.List.{List}
+use mathlib.Core.List.{List, []}
 use lib.Ieee.{Float}
 use Rattle.algebra.specs.Matrix.{row, transpose, vec_add}
 use Rattle.algebra.specs.Array.{pad_row, pad}

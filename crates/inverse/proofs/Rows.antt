@@ -1,5 +1,6 @@
 -- Laws of the code's operations on rows: what they make of the used part of an array of four rows. Assumes nothing.
 use mathlib.Core.Path.{◌≡◌, refl, sym, ap, ◌∙◌, subst}
+use mathlib.Core.List.{[]}
 use mathlib.Core.Bool.{cond}
 use Prim.Native.Nat.{ℕ, ◌+◌, ◌≤◌, ◌<◌}
 use native.Mathlib.Nat.{le_trans}

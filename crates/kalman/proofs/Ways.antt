@@ -1,6 +1,6 @@
 -- The ways out of an update: refused, and nothing changes; or answered, and an estimate is left. Assumes nothing.
 use mathlib.Core.Path.{◌≡◌, sym, ap, ◌∙◌}
-use mathlib.Core.List.{List, ◌∷◌}
+use mathlib.Core.List.{List, [], ◌∷◌}
 use Prim.Native.Nat.{ℕ}
 use lib.Ieee.{Float}
 use Rattle.answer.specs.declared.Status.TheVariants.{Done, Refused}

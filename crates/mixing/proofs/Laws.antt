@@ -1,6 +1,6 @@
 -- One model of weight 1 keeps its state, but for −0. Assumes nothing.
 use mathlib.Core.Path.{◌≡◌, refl, ap, ◌∙◌}
-use mathlib.Core.List.{◌∷◌}
+use mathlib.Core.List.{[], ◌∷◌}
 use Prim.Native.Nat.{ℕ}
 use Rattle.scalar.specs.Number.{◌⊕◌, ◌⊗◌, +0, one}
 use Rattle.answer.proofs.Tables.{table_ext}

@@ -1,6 +1,6 @@
 -- Laws of the operations on rows of four numbers: a sum over rows term by term, and a row of which the first numbers are taken. Assumes nothing.
 use mathlib.Core.Path.{◌≡◌, refl, sym, ap, ap₂, ◌∙◌}
-use mathlib.Core.List.{List, ◌∷◌}
+use mathlib.Core.List.{List, [], ◌∷◌}
 use mathlib.Core.Bool.{cond}
 use native.Mathlib.Nat.{le_trans}
 use Prim.Native.Nat.{ℕ, zero, suc, ◌+◌, ◌≤◌, ◌<◌}

@@ -1,6 +1,6 @@
 -- A result made row by row: each row of a sum or a product follows from the same row of its left operand, so no matrix in between is stored. Assumes nothing.
 use mathlib.Core.Path.{◌≡◌, sym, ap, ap₂, ◌∙◌}
-use mathlib.Core.List.{List}
+use mathlib.Core.List.{List, []}
 use Prim.Native.Nat.{ℕ, ◌<◌}
 use native.Mathlib.Nat.{le_trans}
 use lib.Ieee.{Float, nan}

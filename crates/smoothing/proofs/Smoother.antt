@@ -1,7 +1,7 @@
 -- Laws of smoothing, for slots of any kind S that hold a `Slot`, with a transition that may go by the slot: `smooth` is the case where it does not. Assumes nothing.
 use mathlib.Core.Path.{◌≡◌, refl, sym, ap, ap₂, ◌∙◌}
 use mathlib.Core.Logic.{◌⊎◌, inl, inr}
-use mathlib.Core.List.{List, ◌∷◌, ◌++◌, map}
+use mathlib.Core.List.{List, [], ◌∷◌, ◌++◌, map}
 use Prim.Native.Nat.{ℕ, ◌<◌}
 use lib.ListN.{length, take, drop, take-append-drop}
 use Rattle.answer.specs.Answer.{Answer, refused, answered, mapped}

@@ -1,6 +1,6 @@
 -- The downdate of a factor of two rows, written out, by what its diagonals answer. Assumes nothing.
 use mathlib.Core.Path.{◌≡◌, refl, sym, ap, ◌∙◌}
-use mathlib.Core.List.{◌∷◌}
+use mathlib.Core.List.{[], ◌∷◌}
 use Prim.Native.Nat.{ℕ}
 use lib.Ieee.{Float}
 use Rattle.scalar.specs.Number.{◌⊖◌, ◌⊗◌, ◌⊘◌}

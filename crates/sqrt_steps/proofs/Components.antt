@@ -1,7 +1,7 @@
 -- One component of a measurement: what it leaves, its ways out, and its numbers as the code makes them. Assumes nothing.
 use mathlib.Core.Path.{◌≡◌, refl, sym, ap, ap₂, ◌∙◌}
 use mathlib.Core.Bool.{cond}
-use mathlib.Core.List.{List, ◌∷◌, ◌++◌}
+use mathlib.Core.List.{List, [], ◌∷◌, ◌++◌}
 use Prim.Native.Nat.{ℕ}
 use native.Mathlib.Nat.{le_trans}
 use native.Mathlib.Omega.{arith}

@@ -1,5 +1,6 @@
 -- Cells of matrices made cell by cell. Assumes nothing.
 use mathlib.Core.Path.{◌≡◌, sym, ap, ◌∙◌}
+use mathlib.Core.List.{[]}
 use Prim.Native.Nat.{ℕ, ◌<◌}
 use Rattle.answer.specs.Table.{table}
 use Rattle.answer.proofs.Tables.{get_or-table, table_ext}

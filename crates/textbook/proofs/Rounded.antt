@@ -1,7 +1,7 @@
 -- At rounded binary64 the generic elimination, factor and downdate are the definitions of algebra and filtering. Assumes nothing.
 use mathlib.Core.Path.{◌≡◌, refl, ap, ◌∙◌}
 use mathlib.Core.Bool.{Bool, true, false, cond}
-use mathlib.Core.List.{◌∷◌, ◌++◌}
+use mathlib.Core.List.{[], ◌∷◌, ◌++◌}
 use Prim.Native.Nat.{ℕ, zero, suc, ◌+◌, ◌-◌}
 use lib.Ieee.{Float}
 use Rattle.answer.specs.Answer.{Answer, refused, answered, and_then, mapped, refused_if}

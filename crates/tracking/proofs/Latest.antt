@@ -5,7 +5,7 @@ use mathlib.Core.Path.{◌≡◌, refl, sym, ap, ◌∙◌, subst}
 use mathlib.Core.Bool.{Bool, true, false, cond}
 use mathlib.Core.Option.{Option, none, some, get_or}
 use mathlib.Core.Logic.{◌⊎◌, inl, inr}
-use mathlib.Core.List.{List, ◌∷◌, zip_with}
+use mathlib.Core.List.{List, [], ◌∷◌, zip_with}
 use lib.ListN.{length, drop}
 use Rattle.answer.specs.Answer.{Answer, refused, answered}
 use Rattle.algebra.specs.Matrix.{Matrix}

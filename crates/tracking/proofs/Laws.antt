@@ -3,7 +3,7 @@ use Prim.Native.Nat.{ℕ, suc, ◌+◌, ◌≤◌, ◌<◌}
 use native.Mathlib.Omega.{arith}
 use mathlib.Core.Path.{◌≡◌, refl, sym, ap, ◌∙◌, subst}
 use mathlib.Core.Option.{Option}
-use mathlib.Core.List.{List, ◌∷◌, map, zip_with}
+use mathlib.Core.List.{List, [], ◌∷◌, map, zip_with}
 use lib.ListN.{length, length-map}
 use lib.Ieee.{Float}
 use Rattle.answer.specs.Answer.{Answer, refused, answered}

@@ -1,5 +1,5 @@
 -- `put_road` meets its contract: six numbers are copied.
-use mathlib.Core.List.{◌∷◌}
+use mathlib.Core.List.{[], ◌∷◌}
 use Rattle.layout.proofs.Calls.{slice-put}
 use Rattle.c_imm.proofs.put_road.Goals as goal
 

@@ -1,6 +1,6 @@
 -- `factor_of` meets its contract: row after row by one law, each the definition's next row or its refusal.
 use mathlib.Core.Path.{refl}
-use mathlib.Core.List.{List, ◌∷◌}
+use mathlib.Core.List.{List, [], ◌∷◌}
 use native.Mathlib.Omega.{arith}
 use lib.ListN.{replicate}
 use lib.Ieee.{Float}

@@ -1,5 +1,5 @@
 -- `left_two` meets its contract: one cell more.
-use mathlib.Core.List.{◌∷◌}
+use mathlib.Core.List.{[], ◌∷◌}
 use native.Mathlib.Omega.{arith}
 use Rattle.algebra.specs.Cholesky.{left_cells}
 use Rattle.cholesky.proofs.Rows.{left-more}

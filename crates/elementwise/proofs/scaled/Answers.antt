@@ -1,5 +1,5 @@
 -- `scaled` meets its contract: four rows of products.
-use mathlib.Core.List.{◌∷◌}
+use mathlib.Core.List.{[], ◌∷◌}
 use Rattle.algebra.specs.Matrix.{scale, vec_scale}
 use Rattle.elementwise.proofs.scaled.Goals as goal
 

@@ -1,7 +1,7 @@
 -- `product` meets its contract: its four rows.
 use native.Mathlib.Omega.{arith}
 use mathlib.Core.Path.{refl}
-use mathlib.Core.List.{◌∷◌}
+use mathlib.Core.List.{[], ◌∷◌}
 use Rattle.algebra.specs.Matrix.{row, mul}
 use Rattle.algebra.specs.Array.{used}
 use Rattle.algebra.proofs.Matrices.{shape-mul}

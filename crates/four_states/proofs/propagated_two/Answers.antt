@@ -1,7 +1,7 @@
 -- `propagated_two` meets its contract: its two rows, and +0 behind them.
 use native.Mathlib.Omega.{arith}
 use mathlib.Core.Path.{refl}
-use mathlib.Core.List.{List, ◌∷◌}
+use mathlib.Core.List.{List, [], ◌∷◌}
 use lib.ListN.{replicate}
 use lib.Ieee.{Float}
 use Rattle.scalar.specs.Number.{+0}

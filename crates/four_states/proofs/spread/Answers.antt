@@ -1,7 +1,7 @@
 -- `spread` meets its contract: its four rows.
 use native.Mathlib.Omega.{arith}
 use mathlib.Core.Path.{refl}
-use mathlib.Core.List.{◌∷◌}
+use mathlib.Core.List.{[], ◌∷◌}
 use Rattle.algebra.specs.Matrix.{row, mul, add, transpose}
 use Rattle.algebra.specs.Array.{used}
 use Rattle.algebra.proofs.Matrices.{shape-add}

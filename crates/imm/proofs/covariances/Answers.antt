@@ -1,5 +1,5 @@
 -- `covariances` meets its contract: the rows of each model's.
-use mathlib.Core.List.{◌∷◌}
+use mathlib.Core.List.{[], ◌∷◌}
 use Rattle.imm.proofs.covariances.Goals as goal
 
 pub returns : goal.returns

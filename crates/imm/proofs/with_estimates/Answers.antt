@@ -1,5 +1,5 @@
 -- `with_estimates` meets its contract: model by model.
-use mathlib.Core.List.{◌∷◌}
+use mathlib.Core.List.{[], ◌∷◌}
 use Rattle.imm.proofs.with_estimates.Goals as goal
 
 pub returns : goal.returns

@@ -1,6 +1,6 @@
 -- `mix` meets its contract: the predicted probabilities, and each model by its weights.
 use mathlib.Core.Path.{◌≡◌, refl, ap, ◌∙◌}
-use mathlib.Core.List.{◌∷◌}
+use mathlib.Core.List.{[], ◌∷◌}
 use lib.Ieee.{Float}
 use Rattle.scalar.specs.Number.{◌⊕◌, ◌⊗◌, +0}
 use Rattle.algebra.specs.Matrix.{Vector, sum_from}

@@ -1,5 +1,5 @@
 -- `weights` meets its contract: a choice for each model.
-use mathlib.Core.List.{◌∷◌}
+use mathlib.Core.List.{[], ◌∷◌}
 use Rattle.imm_road.proofs.weights.Goals as goal
 
 pub returns : goal.returns

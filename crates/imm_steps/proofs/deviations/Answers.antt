@@ -1,5 +1,5 @@
 -- `deviations` meets its contract: a difference for each model.
-use mathlib.Core.List.{◌∷◌}
+use mathlib.Core.List.{[], ◌∷◌}
 use Rattle.imm_steps.proofs.deviations.Goals as goal
 
 pub returns : goal.returns

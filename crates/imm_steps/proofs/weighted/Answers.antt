@@ -1,5 +1,6 @@
 -- `weighted` meets its contract: the weights times the states, in all four columns, and the used ones taken.
 use mathlib.Core.Path.{sym, ap, ◌∙◌}
+use mathlib.Core.List.{[]}
 use Rattle.scalar.specs.Number.{◌⊗◌}
 use Rattle.algebra.specs.Matrix.{at, cell, sum_of}
 use Rattle.algebra.specs.Array.{cut, pad_row}

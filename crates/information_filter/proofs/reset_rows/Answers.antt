@@ -1,4 +1,5 @@
 -- `reset_rows` meets its contract: by the status.
+use mathlib.Core.List.{[]}
 use Rattle.algebra.specs.Array.{pad}
 use Rattle.sizes.specs.Size.{count}
 use Rattle.steps.specs.Flat.{estimate_from}

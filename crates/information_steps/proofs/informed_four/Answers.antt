@@ -1,7 +1,7 @@
 -- `informed_four` meets its contract: its four rows.
 use native.Mathlib.Omega.{arith}
 use mathlib.Core.Path.{refl}
-use mathlib.Core.List.{◌∷◌}
+use mathlib.Core.List.{[], ◌∷◌}
 use Rattle.algebra.specs.Matrix.{row}
 use Rattle.algebra.specs.Array.{used}
 use Rattle.algebra.proofs.Arrays.{rows_at}

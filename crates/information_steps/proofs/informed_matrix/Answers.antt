@@ -2,6 +2,7 @@
 use Prim.Native.Nat.{ℕ, ◌-◌, ◌<◌}
 use native.Mathlib.Omega.{arith}
 use mathlib.Core.Path.{◌≡◌, sym, subst, ◌∙◌}
+use mathlib.Core.List.{[]}
 use Rattle.algebra.specs.Array.{cut, used, pad}
 use Rattle.algebra.proofs.Arrays.{rows_none, rows_more, rows_all}
 use Rattle.sizes.specs.Size.{count}

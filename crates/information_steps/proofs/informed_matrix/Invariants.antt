@@ -1,6 +1,7 @@
 -- What the loop of `informed_matrix` keeps.
 use Prim.Native.Nat.{◌-◌, ◌≤◌}
 use mathlib.Core.Path.{◌≡◌}
+use mathlib.Core.List.{[]}
 use Rattle.algebra.specs.Matrix.{row}
 use Rattle.algebra.proofs.Arrays.{Rows}
 use Rattle.sizes.specs.Size.{count, part}

@@ -1,5 +1,5 @@
 -- `from_flat` meets its contract: four rows of four reads each.
-use mathlib.Core.List.{◌∷◌}
+use mathlib.Core.List.{[], ◌∷◌}
 use Rattle.algebra.specs.Array.{used_flat}
 use Rattle.algebra.specs.Array.{rows_of_flat}
 use Rattle.kernel.proofs.from_flat.Goals as goal

@@ -1,7 +1,7 @@
 -- `combination` meets its contract: four sums, written out term by term up to the number of terms.
 use Prim.Native.Nat.{ℕ}
 use mathlib.Core.Path.{◌≡◌, refl}
-use mathlib.Core.List.{List, ◌∷◌}
+use mathlib.Core.List.{List, [], ◌∷◌}
 use lib.Ieee.{Float}
 use Rattle.algebra.specs.Matrix.{row}
 use Rattle.rows.specs.Row.{row_times}

@@ -1,5 +1,5 @@
 -- `row_with` meets its contract: number by number.
-use mathlib.Core.List.{◌∷◌}
+use mathlib.Core.List.{[], ◌∷◌}
 use Rattle.rows.proofs.row_with.Goals as goal
 
 pub returns : goal.returns

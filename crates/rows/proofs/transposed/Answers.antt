@@ -1,6 +1,6 @@
 -- `transposed` meets its contract: the columns are the rows.
 use mathlib.Core.Path.{sym, ap, ◌∙◌}
-use mathlib.Core.List.{◌∷◌}
+use mathlib.Core.List.{[], ◌∷◌}
 use Rattle.algebra.specs.Matrix.{cell}
 use Rattle.algebra.specs.Array.{pad}
 use Rattle.algebra.proofs.Arrays.{used-mat, transpose-used}

@@ -1,5 +1,5 @@
 -- The table's rule, by one computed test, and so the power of a column.
-use Rattle.std.proofs.Common.{ℕ, ◌^◌, Bool, eqb, leb, List, ◌∷◌, get_or, eqb→eq, leb→le, rules}
+use Rattle.std.proofs.Common.{ℕ, ◌^◌, Bool, eqb, leb, List, [], ◌∷◌, get_or, eqb→eq, leb→le, rules}
 use Rattle.sheet_text.proofs.Table.{at}
 use Rattle.sheet_text.proofs.power.Goals as goal
 

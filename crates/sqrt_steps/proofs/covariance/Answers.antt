@@ -1,7 +1,7 @@
 -- `covariance` meets its contract: its rows, each made by itself.
 use native.Mathlib.Omega.{arith}
 use mathlib.Core.Path.{◌≡◌, sym, ap, ◌∙◌}
-use mathlib.Core.List.{List, ◌∷◌}
+use mathlib.Core.List.{List, [], ◌∷◌}
 use Prim.Native.Nat.{ℕ, zero, suc, ◌<◌}
 use lib.Ieee.{Float}
 use Rattle.answer.proofs.Tables.{table_ext}

@@ -1,6 +1,6 @@
 -- `turned_column` meets its contract: number by number.
 use mathlib.Core.Path.{ap, ◌∙◌}
-use mathlib.Core.List.{◌∷◌}
+use mathlib.Core.List.{[], ◌∷◌}
 use Rattle.sqrt_steps.specs.Step.{turned_column}
 use Rattle.sqrt_steps.proofs.Columns.{turned_or, first}
 use Rattle.sqrt_steps.proofs.turned_column.Goals as goal

@@ -1,5 +1,5 @@
 -- `turned_vector` meets its contract: number by number.
-use mathlib.Core.List.{◌∷◌}
+use mathlib.Core.List.{[], ◌∷◌}
 use Rattle.scalar.specs.Number.{◌⊖◌, ◌⊗◌}
 use Rattle.algebra.specs.Matrix.{at}
 use Rattle.sqrt_steps.specs.Step.{turned_vector}

@@ -1,5 +1,5 @@
 -- `with_column` meets its contract: row by row.
-use mathlib.Core.List.{◌∷◌}
+use mathlib.Core.List.{[], ◌∷◌}
 use Rattle.sqrt_steps.specs.Step.{with_column}
 use Rattle.sqrt_steps.proofs.with_column.Goals as goal
 

@@ -1,6 +1,6 @@
 -- `textbook` meets its contract: a walk of its MIR, by hand, since the borrow checker reads only facts of `Type 0`. It returns (), beside the statements.
 use mathlib.Core.Path.{refl}
-use mathlib.Core.List.{List, ◌∷◌}
+use mathlib.Core.List.{List, [], ◌∷◌}
 use seplogic.Ra.Ura.{Ura}
 use mir.Val.{Val, vunit}
 use base.Logic.{SProp, ent, sep, emp, via, fst∗, emp∗, comm∗, mono_l}

@@ -1,5 +1,5 @@
 -- `outer_rows` meets its contract: four rows, each w times a number of v.
-use mathlib.Core.List.{◌∷◌}
+use mathlib.Core.List.{[], ◌∷◌}
 use Rattle.vector.proofs.outer_rows.Goals as goal
 
 pub returns : goal.returns

@@ -1,5 +1,5 @@
 -- What the loop of `put_product` keeps.
-use mathlib.Core.List.{◌∷◌}
+use mathlib.Core.List.{[], ◌∷◌}
 use Prim.Native.Nat.{◌-◌}
 use Rattle.algebra.specs.Array.{used}
 use Rattle.sizes.specs.Size.{count}

@@ -1,5 +1,6 @@
 -- `new` meets its contract: by the status of what is made of the estimate.
 use mathlib.Core.Path.{sym, ◌∙◌}
+use mathlib.Core.List.{[]}
 use Rattle.answer.specs.declared.Status.TheVariants.{Refused}
 use Rattle.answer.specs.Answer.{mapped}
 use Rattle.answer.specs.Outcome.{into, handed}

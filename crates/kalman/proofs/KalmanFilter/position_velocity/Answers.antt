@@ -1,6 +1,6 @@
 -- `position_velocity` meets its contract: the numbers of the road's filter, laid flat.
 use mathlib.Core.Path.{ap, ◌∙◌}
-use mathlib.Core.List.{◌∷◌}
+use mathlib.Core.List.{[], ◌∷◌}
 use Rattle.scalar.specs.Number.{+0}
 use Rattle.algebra.specs.Array.{pad}
 use Rattle.road.specs.Road.{Filter}

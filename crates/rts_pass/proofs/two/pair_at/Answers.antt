@@ -1,6 +1,6 @@
 -- `two::pair_at` meets its contract: the state, then the covariance.
 use mathlib.Core.Path.{◌≡◌}
-use mathlib.Core.List.{◌∷◌}
+use mathlib.Core.List.{[], ◌∷◌}
 use Prim.Native.Nat.{◌+◌}
 use native.Mathlib.Omega.{arith}
 use Rattle.algebra.specs.Matrix.{at}

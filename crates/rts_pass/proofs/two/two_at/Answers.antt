@@ -1,6 +1,6 @@
 -- `two::two_at` meets its contract: the numbers one after another.
 use mathlib.Core.Path.{◌≡◌}
-use mathlib.Core.List.{◌∷◌}
+use mathlib.Core.List.{[], ◌∷◌}
 use Prim.Native.Nat.{◌+◌, ◌*◌}
 use native.Mathlib.Omega.{arith}
 use Rattle.algebra.specs.Matrix.{at}

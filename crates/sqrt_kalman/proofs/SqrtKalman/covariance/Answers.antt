@@ -1,5 +1,6 @@
 -- `covariance` meets its contract.
 use mathlib.Core.Path.{sym, ap, ◌∙◌}
+use mathlib.Core.List.{[]}
 use Prim.Native.Nat.{ℕ}
 use Rattle.algebra.specs.Array.{pad}
 use Rattle.sizes.specs.Size.{count}

@@ -1,5 +1,5 @@
 -- `put_slot` meets its contract: the numbers are set one after another.
-use mathlib.Core.List.{◌∷◌}
+use mathlib.Core.List.{[], ◌∷◌}
 use native.Mathlib.Omega.{arith}
 use lib.ListN.{length-set}
 use Rattle.layout.proofs.Places.{set-placed, placed-next}
