@@ -38,7 +38,7 @@
  * threads may call any of them on buffers of their own, or read one buffer together.
  *
  * Every call ends. Stack on x86-64, without what memcpy and memset use (tools/stack lists every function):
- *   estimators_sheet_report                   below 32 KB
+ *   estimators_sheet_report                   below 33 KB
  *   estimators_rts_smoother_smooth            below 13 KB, whatever its room
  *   every other function                      below 3 KB
  */
