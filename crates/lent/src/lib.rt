@@ -1,9 +1,19 @@
-// One law for the functions that change what their caller lends, in proofs/: `Lent.antt` for the function, `Lends.antt` for a
-// caller by value, `While.antt` for a loop over a lent slice. The code is the laws' smallest instance.
+// One law for the functions that change what their caller lends, as the contract of `lent`: such a function tells and leaves what
+// a step by value answers. `Gauge` is its smallest instance, and a caller by value that lends a local.
 #![tactic(auto)]
 
 ghost use Rattle.std.specs.Prelude.{◌≡◌};
 ghost use Rattle.lent.specs.Gauge.{moved_of};
+
+// The law: what is told, and what stands in the place, are what the step by value makes of what stood there.
+pub fn lent<S: Copy, A, F: FnOnce(S) -> (A, S)>(place: &mut S, step: F) -> A
+    requires { F.pre step place.old }
+    ensures { F.post step place.old (result, place.new) }
+{
+    let (answer, left) = step(*place);
+    *place = left;
+    answer
+}
 
 #[derive(Clone, Copy)]
 pub struct Gauge {
