@@ -41,7 +41,7 @@ pub enum TestResult {
     Refused(u8),
 }
 
-// The two functions that reach into a MatrixResult's rows; their proofs are walks by hand.
+// The two functions that reach into a MatrixResult's rows.
 pub fn matrix_result(status: Status, rows: [[f64; 4]; 4]) -> MatrixResult
     ensures { result ≡ matrix_result status rows }
 {
