@@ -8,7 +8,7 @@ ghost use Rattle.c_copies.specs.Filter.{predict_in, update_in};
 
 use answer::Status;
 use c_copies::is_step;
-use c_roads::{is_plane, is_road, put_road, road_at};
+pub use c_roads::{is_plane, is_road, kalman_position_velocity, put_road, road_at};
 use matrix::ScalarResult;
 use sizes::{Size, both, size_of};
 

@@ -9,6 +9,7 @@ ghost use Rattle.road.specs.Road.{matrix_of, estimate_of};
 ghost use Rattle.c_bank.specs.Bank.{is_parts, is_roads, roads_in, with_bank, mixed_in, mix_in, new_in};
 
 use c_bank::is_bank;
+pub use c_bank::{imm_fused_estimate, imm_model_probability, imm_update_probabilities};
 use road::{Pair, Two};
 use sizes::{both, size_of};
 
