@@ -1,8 +1,9 @@
-// One law for the functions that change what their caller lends, as the contract of `lent`: such a function tells and leaves what
-// a step by value answers. `Gauge` is its smallest instance, and a caller by value that lends a local.
+// Two laws: of the functions that change what their caller lends, as the contract of `lent`, and of a caller by value that lends a
+// local, as that of `by_lending`. `Gauge` is their smallest instance.
 #![tactic(auto)]
 
 ghost use Rattle.std.specs.Prelude.{◌≡◌};
+ghost use Rattle.std.specs.Fn.{FnOnceReturnsAtMut};
 ghost use Rattle.lent.specs.Gauge.{moved_of};
 
 // The law: what is told, and what stands in the place, are what the step by value makes of what stood there.
@@ -13,6 +14,16 @@ pub fn lent<S: Copy, A, F: FnOnce(S) -> (A, S)>(place: &mut S, step: F) -> A
     let (answer, left) = step(*place);
     *place = left;
     answer
+}
+
+// The caller's side: by value, with a local lent to the step for the call.
+pub fn by_lending<S: Copy, A, F: FnOnce(&mut S) -> A>(value: S, step: F) -> (A, S)
+    requires { F.IsAlwaysCallable step }
+    ensures { FnOnceReturnsAtMut F.FnOnce step value result.0 result.1 }
+{
+    let mut local = value;
+    let answer = step(&mut local);
+    (answer, local)
 }
 
 #[derive(Clone, Copy)]
