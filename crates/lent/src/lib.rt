@@ -7,7 +7,7 @@ ghost use Rattle.std.specs.Fn.{FnOnceReturnsAtMut};
 ghost use Rattle.lent.specs.Gauge.{moved_of};
 
 // The law: what is told, and what stands in the place, are what the step by value makes of what stood there.
-pub fn lent<S: Copy, A, F: FnOnce(S) -> (A, S)>(place: &mut S, step: F) -> A
+fn lent<S: Copy, A, F: FnOnce(S) -> (A, S)>(place: &mut S, step: F) -> A
     requires { F.pre step place.old }
     ensures { F.post step place.old (result, place.new) }
 {
@@ -17,7 +17,7 @@ pub fn lent<S: Copy, A, F: FnOnce(S) -> (A, S)>(place: &mut S, step: F) -> A
 }
 
 // The caller's side: by value, with a local lent to the step for the call.
-pub fn by_lending<S: Copy, A, F: FnOnce(&mut S) -> A>(value: S, step: F) -> (A, S)
+fn by_lending<S: Copy, A, F: FnOnce(&mut S) -> A>(value: S, step: F) -> (A, S)
     requires { F.IsAlwaysCallable step }
     ensures { FnOnceReturnsAtMut F.FnOnce step value result.0 result.1 }
 {
