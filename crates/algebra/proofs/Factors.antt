@@ -7,9 +7,12 @@ use native.Mathlib.Numerals.{add-one}
 use native.Mathlib.Omega.{arith}
 use lib.ListN.{length, length-append}
 use lib.Ieee.{Float}
+use Rattle.std.specs.Prelude.{Ok, Err}
 use Rattle.root.specs.Root.{root}
 use Rattle.scalar.specs.Number.{◌⊖◌, ◌⊘◌, +0}
-use Rattle.answer.specs.Answer.{refused, answered, and_then, mapped}
+use Rattle.answer.specs.declared.Refusal.{Refusal}
+use Rattle.answer.specs.declared.Refusal.TheVariants.{NotPositiveDefinite}
+use Rattle.answer.specs.Answer.{and_then, mapped}
 use Rattle.answer.specs.Table.{pad_to}
 use Rattle.algebra.specs.Matrix.{Vector, Matrix, at, row, cell, dot}
 use Rattle.algebra.specs.Array.{used}
@@ -26,31 +29,31 @@ unfolding left_cells
 length-left a L zero = refl
 length-left a L (suc j) = length-append (left_cells a L j) _ ∙ (λ i. length-left a L j i + 1) ∙ add-one j
 
-told-diagonal : (d : Float) → Told (λ k. k ≡ 4) (λ (_ : Float). Unit {0}) (diagonal_of d)
+told-diagonal : (d : Float) → Told (λ k. k ≡ NotPositiveDefinite) (λ (_ : Float). Unit {0}) (diagonal_of d)
 unfolding diagonal_of
-told-diagonal d = told_if (no_diagonal d) 4 (root d) refl tt
+told-diagonal d = told_if (no_diagonal d) NotPositiveDefinite (root d) refl tt
 
-told-row : (n : ℕ) (a : Vector) (L : Matrix) (i : ℕ) → i < n → Told (λ k. k ≡ 4) (λ v. length v ≡ n) (factor_row n a L i)
+told-row : (n : ℕ) (a : Vector) (L : Matrix) (i : ℕ) → i < n → Told (λ k. k ≡ NotPositiveDefinite) (λ v. length v ≡ n) (factor_row n a L i)
 unfolding factor_row
 told-row n a L i h =
     let v = left_cells a L i in
     told-mapped (λ x. pad_to n +0 (v ++ x ∷ [])) (told-diagonal (at a i ⊖ dot i v v))
     (λ x _. length-pad_to n +0 (v ++ x ∷ []) (omega (arith, length-append v (x ∷ []), length-left a L i)))
 
-told-rows : (n : ℕ) (A : Matrix) (i : ℕ) → i ≤ n → Told (λ k. k ≡ 4) (Shape i n) (factor_rows n A i)
+told-rows : (n : ℕ) (A : Matrix) (i : ℕ) → i ≤ n → Told (λ k. k ≡ NotPositiveDefinite) (Shape i n) (factor_rows n A i)
 unfolding factor_rows
 told-rows n A zero h = result (record { rows = refl; cols = λ i l. absurd (omega arith) })
 told-rows n A (suc i) h =
     told-then (told-rows n A i (omega arith)) (λ L s. told-mapped (λ v. L ++ v ∷ []) (told-row n (row A i) L i (omega arith)) (λ v e. shape-more v s e))
 
-pub shape-rows : (n : ℕ) (A : Matrix) (i : ℕ) (L : Matrix) → i ≤ n → factor_rows n A i ≡ answered L → Shape i n L
+pub shape-rows : (n : ℕ) (A : Matrix) (i : ℕ) (L : Matrix) → i ≤ n → factor_rows n A i ≡ Ok L → Shape i n L
 shape-rows n A i L h e = result_of (told-rows n A i h) e
 
-pub shape-cholesky : (n : ℕ) (A L : Matrix) → cholesky n A ≡ answered L → Shape n n L
+pub shape-cholesky : (n : ℕ) (A L : Matrix) → cholesky n A ≡ Ok L → Shape n n L
 unfolding cholesky
 shape-cholesky n A L e = shape-rows n A n L (le_refl n) e
 
-pub refused-cholesky : (n : ℕ) (A : Matrix) (k : ℕ) → cholesky n A ≡ refused k → k ≡ 4
+pub refused-cholesky : (n : ℕ) (A : Matrix) (k : Refusal) → cholesky n A ≡ Err k → k ≡ NotPositiveDefinite
 unfolding cholesky
 refused-cholesky n A k e = number_of_lem (told-rows n A n (le_refl n)) e
 

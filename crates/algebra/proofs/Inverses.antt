@@ -4,8 +4,11 @@ use mathlib.Core.Bool.{cond}
 use Prim.Native.Nat.{ℕ, zero, suc, ◌-◌, ◌<◌}
 use native.Mathlib.Omega.{arith}
 use lib.Dec.{eqb}
+use Rattle.std.specs.Prelude.{Ok, Err}
 use Rattle.scalar.specs.Number.{abs}
-use Rattle.answer.specs.Answer.{Answer, refused, answered, and_then, mapped, refused_if}
+use Rattle.answer.specs.declared.Refusal.{Refusal}
+use Rattle.answer.specs.declared.Refusal.TheVariants.{SingularMatrix}
+use Rattle.answer.specs.Answer.{Answer, and_then, mapped, refused_if}
 use Rattle.algebra.specs.Matrix.{Matrix, cell, identity}
 use Rattle.algebra.specs.Array.{used}
 use Rattle.algebra.proofs.Matrices.{Shape, shape-mat, shape-identity, mat_ext}
@@ -29,9 +32,9 @@ unfolding column exchanged
 column_ext n c w v h e f =
     let p = pivot_row v.left c (n - suc c) in
     let hp : p < n = omega (arith, pivot-within v.left c (n - suc c)) in
-    ap (λ (q : ℕ). refused_if (no_pivot (abs (cell w.left q c))) 3 (cleared n c (exchanged n q c w)))
+    ap (λ (q : ℕ). refused_if (no_pivot (abs (cell w.left q c))) SingularMatrix (cleared n c (exchanged n q c w)))
     (pivot_ext w.left v.left c (n - suc c) (λ i l. e i c (omega arith) h))
-    ∙ (λ k. refused_if (no_pivot (abs (e p c hp h k))) 3
+    ∙ (λ k. refused_if (no_pivot (abs (e p c hp h k))) SingularMatrix
     (cleared n c (swapped_ext n p c w.left v.left hp h e k beside swapped_ext n p c w.right v.right hp h f k)))
 
 columns_ext : (n c : ℕ) (A B : Matrix) → c < n → Alike n A B → columns n (suc c) A ≡ columns n (suc c) B
@@ -48,23 +51,23 @@ pub inv-used : (n : ℕ) (a : Matrix) → inv n (used n n a) ≡ inv n a
 inv-used n a = inv_ext n (used n n a) a (cell-used n n a)
 
 -- ---- what it refuses, and its shape
-told-column : (n c : ℕ) (w : Augmented) → Told (λ k. k ≡ 3) (λ v. Shape n n v.right) (column n c w)
+told-column : (n c : ℕ) (w : Augmented) → Told (λ k. k ≡ SingularMatrix) (λ v. Shape n n v.right) (column n c w)
 unfolding column cleared reduced
 told-column n c w =
     let p = pivot_row w.left c (n - suc c) in
-    told_if (no_pivot (abs (cell w.left p c))) 3 (cleared n c (exchanged n p c w)) refl (shape-mat n n _)
+    told_if (no_pivot (abs (cell w.left p c))) SingularMatrix (cleared n c (exchanged n p c w)) refl (shape-mat n n _)
 
-told-columns : (n c : ℕ) (A : Matrix) → Told (λ k. k ≡ 3) (λ v. Shape n n v.right) (columns n c A)
+told-columns : (n c : ℕ) (A : Matrix) → Told (λ k. k ≡ SingularMatrix) (λ v. Shape n n v.right) (columns n c A)
 unfolding columns
 told-columns n zero A = result (shape-identity n)
 told-columns n (suc c) A = told-then (told-columns n c A) (λ w _. told-column n c w)
 
-told-inv : (n : ℕ) (A : Matrix) → Told (λ k. k ≡ 3) (Shape n n) (inv n A)
+told-inv : (n : ℕ) (A : Matrix) → Told (λ k. k ≡ SingularMatrix) (Shape n n) (inv n A)
 unfolding inv
 told-inv n A = told-mapped (λ w. w.right) (told-columns n n A) (λ w s. s)
 
-pub inv-refused : (n : ℕ) (A : Matrix) (k : ℕ) → inv n A ≡ refused k → k ≡ 3
+pub inv-refused : (n : ℕ) (A : Matrix) (k : Refusal) → inv n A ≡ Err k → k ≡ SingularMatrix
 inv-refused n A k e = number_of_lem (told-inv n A) e
 
-pub inv-shape : (n : ℕ) (A B : Matrix) → inv n A ≡ answered B → Shape n n B
+pub inv-shape : (n : ℕ) (A B : Matrix) → inv n A ≡ Ok B → Shape n n B
 inv-shape n A B e = result_of (told-inv n A) e

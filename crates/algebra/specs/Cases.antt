@@ -1,9 +1,9 @@
 -- The worked cases of roots, matrices, inversion and Cholesky: those marked for proof in document 01, and others that settle a wrong turn. Definitions only.
-use Rattle.std.specs.Prelude.{◌≡◌, true, false, [], ◌∷◌, map}
+use Rattle.std.specs.Prelude.{◌≡◌, true, false, [], ◌∷◌, map, Ok, Err}
 use Rattle.std.specs.Float.{binary64, nan}
 use Rattle.std.specs.Float.Ieee.{to_bits}
 use Rattle.root.specs.Root.{root}
-use Rattle.answer.specs.Answer.{refused, answered}
+use Rattle.answer.specs.declared.Refusal.TheVariants.{SingularMatrix, NotPositiveDefinite}
 use Rattle.algebra.specs.Matrix.{mul, one_by_one, two_by_two}
 use Rattle.algebra.specs.Inverse.{limit, no_pivot, pivot_row, inv}
 use Rattle.algebra.specs.Cholesky.{cholesky}
@@ -26,10 +26,10 @@ pub record Cases : Type 0 where
   pub mul_of_minus-zero : mul 1 1 1 (one_by_one −0) (one_by_one n1) ≡ one_by_one n0
   -- the inverse: the rows change places; the second column has no pivot; a NaN is a pivot; of two rows of one magnitude the first is the
   -- pivot, and a row is multiplied by the pivot's reciprocal
-  pub inv-turned : inv 2 (two_by_two n0 n2 n4 n0) ≡ answered (two_by_two n0 ¼ ½ n0)
-  pub inv_singular : inv 2 (two_by_two n1 n2 n2 n4) ≡ refused 3
-  pub inv_of_nan : inv 1 (one_by_one nan) ≡ answered (one_by_one nan)
-  pub inv-first : inv 2 (two_by_two n1 n1 n1 −2) ≡ answered (two_by_two 1−⅓ ⅓ ⅓ −⅓)
+  pub inv-turned : inv 2 (two_by_two n0 n2 n4 n0) ≡ Ok (two_by_two n0 ¼ ½ n0)
+  pub inv_singular : inv 2 (two_by_two n1 n2 n2 n4) ≡ Err SingularMatrix
+  pub inv_of_nan : inv 1 (one_by_one nan) ≡ Ok (one_by_one nan)
+  pub inv-first : inv 2 (two_by_two n1 n1 n1 −2) ≡ Ok (two_by_two 1−⅓ ⅓ ⅓ −⅓)
   -- its pivot: a NaN below the diagonal never wins, and one on it is never beaten
   pub pivot_nan_below : pivot_row (two_by_two n1 n0 nan n0) 0 1 ≡ 0
   pub pivot_nan_above : pivot_row (two_by_two nan n0 n1 n0) 0 1 ≡ 0
@@ -38,8 +38,8 @@ pub record Cases : Type 0 where
   pub pivot_at_limit : no_pivot limit_of_pivots ≡ false
   pub pivot-below-limit : no_pivot before_limit ≡ true
   -- Cholesky's factor: the upper triangle, 9, is not read; what is left of a diagonal is zero; a NaN passes; -0 less a sum from +0 on stays -0
-  pub cholesky-lower : cholesky 2 (two_by_two n4 n9 n2 n5) ≡ answered (two_by_two n2 n0 n1 n2)
-  pub cholesky_not_positive : cholesky 2 (two_by_two n1 n0 n1 n1) ≡ refused 4
-  pub cholesky_of_nan : cholesky 1 (one_by_one nan) ≡ answered (one_by_one nan)
+  pub cholesky-lower : cholesky 2 (two_by_two n4 n9 n2 n5) ≡ Ok (two_by_two n2 n0 n1 n2)
+  pub cholesky_not_positive : cholesky 2 (two_by_two n1 n0 n1 n1) ≡ Err NotPositiveDefinite
+  pub cholesky_of_nan : cholesky 1 (one_by_one nan) ≡ Ok (one_by_one nan)
   pub cholesky-sum : cholesky 3 ((n1 ∷ nan ∷ nan ∷ []) ∷ (−1 ∷ n2 ∷ nan ∷ []) ∷ (n0 ∷ −0 ∷ n1 ∷ []) ∷ [])
-      ≡ answered ((n1 ∷ n0 ∷ n0 ∷ []) ∷ (−1 ∷ n1 ∷ n0 ∷ []) ∷ (n0 ∷ −0 ∷ n1 ∷ []) ∷ [])
+      ≡ Ok ((n1 ∷ n0 ∷ n0 ∷ []) ∷ (−1 ∷ n1 ∷ n0 ∷ []) ∷ (n0 ∷ −0 ∷ n1 ∷ []) ∷ [])

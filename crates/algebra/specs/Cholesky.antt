@@ -1,10 +1,11 @@
 -- Cholesky's factor for any size: the lower triangle L with L × transposed L = A, row by row. Golub and Van Loan, 4.2. Definitions only.
 -- Of A only the lower triangle is read.
-use Rattle.std.specs.Prelude.{ℕ, zero, suc, Bool, [], ◌∷◌, ◌++◌, Float}
+use Rattle.std.specs.Prelude.{ℕ, zero, suc, Bool, [], ◌∷◌, ◌++◌, Float, Ok}
 use Rattle.std.specs.Float.Ieee.{le}
 use Rattle.root.specs.Root.{root}
 use Rattle.scalar.specs.Number.{◌⊖◌, ◌⊘◌, +0}
-use Rattle.answer.specs.Answer.{Answer, answered, and_then, mapped, refused_if}
+use Rattle.answer.specs.declared.Refusal.TheVariants.{NotPositiveDefinite}
+use Rattle.answer.specs.Answer.{Answer, and_then, mapped, refused_if}
 use Rattle.answer.specs.Table.{pad_to}
 use Rattle.algebra.specs.Matrix.{Vector, Matrix, at, row, cell, dot}
 
@@ -14,7 +15,7 @@ no_diagonal d = le d +0
 
 -- the cell on the diagonal: the root of what is left of A's, d
 unfoldable pub diagonal_of : Float → Answer Float
-diagonal_of d = refused_if (no_diagonal d) 4 (root d)
+diagonal_of d = refused_if (no_diagonal d) NotPositiveDefinite (root d)
 
 -- the first j cells of row i of L, left of the diagonal: L i j = (A i j - sum over k < j of L i k × L j k) / L j j
 -- a is row i of A, and L has the rows above
@@ -32,7 +33,7 @@ factor_row n a L i =
 
 -- the first i rows of L
 unfoldable pub factor_rows : ℕ → Matrix → ℕ → Answer Matrix
-factor_rows n A zero = answered []
+factor_rows n A zero = Ok []
 factor_rows n A (suc i) = and_then (factor_rows n A i) (λ L. mapped (λ v. L ++ v ∷ []) (factor_row n (row A i) L i))
 
 unfoldable pub cholesky : ℕ → Matrix → Answer Matrix

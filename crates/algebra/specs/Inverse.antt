@@ -1,10 +1,11 @@
 -- Inversion by Gauss and Jordan's elimination with partial pivoting, of a matrix of any size n; Golub and Van Loan, 3.4. Definitions only.
 -- Each operation on numbers rounds once, in the order of src/core/matrix.rs.
-use Rattle.std.specs.Prelude.{ℕ, zero, suc, ◌+◌, ◌-◌, Bool, cond, eqb, Float}
+use Rattle.std.specs.Prelude.{ℕ, zero, suc, ◌+◌, ◌-◌, Bool, cond, eqb, Float, Ok}
 use Rattle.std.specs.Float.Ieee.{lt, of_bits}
 use Rattle.std.specs.Float.{binary64}
 use Rattle.scalar.specs.Number.{◌⊖◌, ◌⊗◌, ◌⊘◌, one, epsilon, abs}
-use Rattle.answer.specs.Answer.{Answer, answered, and_then, mapped, refused_if}
+use Rattle.answer.specs.declared.Refusal.TheVariants.{SingularMatrix}
+use Rattle.answer.specs.Answer.{Answer, and_then, mapped, refused_if}
 use Rattle.answer.specs.Table.{table}
 use Rattle.algebra.specs.Matrix.{Vector, Matrix, at, cell, mat, identity}
 
@@ -69,11 +70,11 @@ cleared n c w =
 unfoldable pub column : ℕ → ℕ → Augmented → Answer Augmented
 column n c w =
     let p = pivot_row w.left c (n - suc c) in
-    refused_if (no_pivot (abs (cell w.left p c))) 3 (cleared n c (exchanged n p c w))
+    refused_if (no_pivot (abs (cell w.left p c))) SingularMatrix (cleared n c (exchanged n p c w))
 
 -- the first c columns, from left to right
 unfoldable pub columns : ℕ → ℕ → Matrix → Answer Augmented
-columns n zero A = answered (A beside identity n)
+columns n zero A = Ok (A beside identity n)
 columns n (suc c) A = and_then (columns n c A) (λ w. column n c w)
 
 unfoldable pub inv : ℕ → Matrix → Answer Matrix

@@ -2,7 +2,9 @@
 use mathlib.Core.Path.{◌≡◌}
 use Prim.Native.Nat.{ℕ}
 use lib.ListN.{length}
-use Rattle.answer.specs.Answer.{Answer, refused, answered}
+use Rattle.std.specs.Prelude.{Ok, Err}
+use Rattle.answer.specs.declared.Refusal.{Refusal}
+use Rattle.answer.specs.Answer.{Answer}
 use Rattle.answer.specs.Outcome.{Outcome, unchanged, done, ◌else_leave◌then◌}
 use Rattle.algebra.specs.Matrix.{Vector, Matrix, mul, transpose, sub, identity}
 use Rattle.algebra.specs.Inverse.{inv}
@@ -42,7 +44,7 @@ pub record Sized (n : ℕ) (e : Estimate) : Type 0 where
 
 -- m numbers are told and an estimate of n states is left, or nothing changes
 pub data Way (n m : ℕ) : Outcome Estimate Vector → Type 0 where
-  stopped : (k : ℕ) → Way n m (record { told = refused k; left = unchanged })
+  stopped : (k : Refusal) → Way n m (record { told = Err k; left = unchanged })
   went : (y : Vector) (e : Estimate) → length y ≡ m → Sized n e → Way n m (done y e)
 
 pub way : (Y : Sensor Matrix) (z : Vector) (e : Estimate) → Way Y.n Y.m (update Y z e)
@@ -50,5 +52,5 @@ unfolding update correction
 way Y z e = go (inv Y.m (propagated Y.m Y.n Y.h e.covariance Y.r))
   where
     go : (a : Answer Matrix) → Way Y.n Y.m (a else_leave unchanged then correction Y z e)
-    go (refused k) = stopped k
-    go (answered W) = went _ _ (length-innovation Y.m Y.n Y.h e.state z) (record { state = length-corrected_state Y.n Y.m _ _ _; covariance = shape-corrected_covariance Y.n Y.m _ _ _ })
+    go (Err k) = stopped k
+    go (Ok W) = went _ _ (length-innovation Y.m Y.n Y.h e.state z) (record { state = length-corrected_state Y.n Y.m _ _ _; covariance = shape-corrected_covariance Y.n Y.m _ _ _ })

@@ -1,8 +1,8 @@
 -- The worked cases of the filters: those marked for proof in document 01, and others that settle what a refusal leaves. Definitions only.
-use Rattle.std.specs.Prelude.{◌≡◌, true, false, [], ◌∷◌, ◌++◌, map, pos, negsuc, Float}
+use Rattle.std.specs.Prelude.{◌≡◌, true, false, [], ◌∷◌, ◌++◌, map, pos, negsuc, Float, Ok, Err}
 use Rattle.std.specs.Float.{fin, nan, binary64}
 use Rattle.std.specs.Float.Ieee.{to_bits}
-use Rattle.answer.specs.Answer.{refused, answered}
+use Rattle.answer.specs.declared.Refusal.TheVariants.{SingularMatrix, NotPositiveDefinite}
 use Rattle.answer.specs.Outcome.{Outcome, unchanged, this, onward, done}
 use Rattle.algebra.specs.Matrix.{Vector, Matrix, one_by_one, two_by_two}
 use Rattle.algebra.specs.Values.{n0, n1, n2, n3, n4, n5}
@@ -75,26 +75,26 @@ pub record Cases : Type 0 where
       ≡ done (n400 ∷ []) (estimate (n300 ∷ speed ∷ []) (two_by_two n768 n786 n786 speed_variance))
   -- linear: an innovation covariance that is rejected changes nothing
   pub linear-refused : Linear.update (record { n = 1; m = 1; h = one_by_one n1; r = one_by_one n0 }) (n3 ∷ []) (estimate (n5 ∷ []) (one_by_one n0))
-      ≡ record { told = refused 3; left = unchanged }
+      ≡ record { told = Err SingularMatrix; left = unchanged }
   -- information: the new matrix is rejected, and keeps the addition; noise that cannot be inverted changes nothing
   pub information_added : Information.update (sensor ((n1 ∷ n0 ∷ []) ∷ []) (one_by_one n1)) (n3 ∷ []) (omega (two_by_two n0 n0 n0 n0) (n0 ∷ n0 ∷ []))
-      ≡ record { told = refused 3; left = this (omega (two_by_two n1 n0 n0 n0) (n3 ∷ n0 ∷ [])) }
+      ≡ record { told = Err SingularMatrix; left = this (omega (two_by_two n1 n0 n0 n0) (n3 ∷ n0 ∷ [])) }
   pub information-noise : Information.update (sensor ((n1 ∷ n0 ∷ []) ∷ []) (one_by_one n0)) (n3 ∷ []) (omega (two_by_two n0 n0 n0 n0) (n0 ∷ n0 ∷ []))
-      ≡ record { told = refused 3; left = unchanged }
+      ≡ record { told = Err SingularMatrix; left = unchanged }
   -- the innovation is from the state after: 4 less 2, where the state before it was 0
   pub information-after : Information.update (record { n = 1; m = 1; h = one_by_one n1; r = one_by_one n1 }) (n4 ∷ []) (omega (one_by_one n1) (n0 ∷ []))
       ≡ done (n2 ∷ []) (omega (one_by_one n2) (n4 ∷ []))
   -- square-root: the state is updated, and the first column fails; the new covariance is rejected, and the state is the new one
   pub root-downdate : SquareRoot.update (channel (one_by_one n1) (n0 ∷ [])) (n5 ∷ []) (factored (n0 ∷ []) (one_by_one n1))
-      ≡ record { told = refused 4; left = this (factored (n5 ∷ []) (one_by_one n1)) }
+      ≡ record { told = Err NotPositiveDefinite; left = this (factored (n5 ∷ []) (one_by_one n1)) }
   pub root-predict : SquareRoot.predict doubling (n0 ∷ []) (factored (n2 ∷ []) (one_by_one n1))
-      ≡ record { told = refused 4; left = this (factored (n4 ∷ []) (one_by_one n1)) }
+      ≡ record { told = Err NotPositiveDefinite; left = this (factored (n4 ∷ []) (one_by_one n1)) }
   -- no variance: nothing changes; with a second component that has none, the first one stays
-  pub root-variance : SquareRoot.update (channel (one_by_one n0) (n0 ∷ [])) (n3 ∷ []) (factored (n5 ∷ []) (one_by_one n1)) ≡ record { told = refused 3; left = unchanged }
+  pub root-variance : SquareRoot.update (channel (one_by_one n0) (n0 ∷ [])) (n3 ∷ []) (factored (n5 ∷ []) (one_by_one n1)) ≡ record { told = Err SingularMatrix; left = unchanged }
   pub root-second : SquareRoot.update (record { n = 1; m = 2; h = one_by_one n0 ++ one_by_one n0; r = n1 ∷ n0 ∷ [] }) (n3 ∷ n4 ∷ []) (factored (n5 ∷ []) (one_by_one n1))
-      ≡ record { told = refused 3; left = this (factored (n5 ∷ []) (one_by_one n1)) }
+      ≡ record { told = Err SingularMatrix; left = this (factored (n5 ∷ []) (one_by_one n1)) }
   -- the first component moves the state to 9 and the factor to 2.4; the second has no variance
   pub root-taken : SquareRoot.update (record { n = 1; m = 2; h = one_by_one n1 ++ one_by_one n0; r = n4 ∷ n0 ∷ [] }) (n25 ∷ n0 ∷ []) (factored (n0 ∷ []) (one_by_one n3))
-      ≡ record { told = refused 3; left = this (factored (n9 ∷ []) (one_by_one n2·4)) }
+      ≡ record { told = Err SingularMatrix; left = this (factored (n9 ∷ []) (one_by_one n2·4)) }
   -- a NaN passes the test of the variance, and that of the diagonal
   pub root_nan : SquareRoot.update (channel (one_by_one n1) (nan ∷ [])) (n3 ∷ []) (factored (n0 ∷ []) (one_by_one n1)) ≡ done (n3 ∷ []) (factored (nan ∷ []) (one_by_one nan))

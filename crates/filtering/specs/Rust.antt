@@ -1,7 +1,7 @@
 -- Numbers that the running Rust gave, at two states and two measurements: what a definition computes is bit for bit that. Definitions only.
-use Rattle.std.specs.Prelude.{◌≡◌, true, false, [], ◌∷◌, pos, negsuc, Float}
+use Rattle.std.specs.Prelude.{◌≡◌, true, false, [], ◌∷◌, pos, negsuc, Float, Err}
 use Rattle.std.specs.Float.{fin}
-use Rattle.answer.specs.Answer.{refused}
+use Rattle.answer.specs.declared.Refusal.TheVariants.{NotPositiveDefinite}
 use Rattle.answer.specs.Outcome.{this, done}
 use Rattle.algebra.specs.Matrix.{Vector, Matrix, two_by_two}
 use Rattle.algebra.specs.Values.{n0, n1, n2, −2, ½, ¼, ¾}
@@ -43,7 +43,7 @@ pub record Rust : Type 0 where
   -- of the second component's downdate the first column is rotated, and the second fails: the state is updated by both components
   pub root-half : SquareRoot.update (record { n = 2; m = 2; h = two_by_two n1 n0 −2 −2; r = ½ ∷ n0 ∷ [] }) z (factored (n1 ∷ n2 ∷ []) (two_by_two n1 n0 −2 n1))
       ≡ record {
-        told = refused 4;
+        told = Err NotPositiveDefinite;
         left = this (factored (fin false 8169650328237311 (negsuc 50) ∷ fin true 3944087675763327 (negsuc 49) ∷ [])
             (two_by_two (fin false 5089540134682839 (negsuc 54)) n0 (fin true 2544770067341425 (negsuc 53)) (fin false 5364179867777333 (negsuc 54))));
       }

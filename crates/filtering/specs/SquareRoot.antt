@@ -3,6 +3,7 @@ use Rattle.std.specs.Prelude.{ℕ, zero, suc, cond, [], ◌∷◌, ◌++◌, eqb
 use Rattle.std.specs.Float.Ieee.{le}
 use Rattle.root.specs.Root.{root}
 use Rattle.scalar.specs.Number.{◌⊕◌, ◌⊖◌, ◌⊗◌, ◌⊘◌, +0}
+use Rattle.answer.specs.declared.Refusal.TheVariants.{SingularMatrix, NotPositiveDefinite}
 use Rattle.answer.specs.Answer.{Answer, mapped, refused_if}
 use Rattle.answer.specs.Table.{table}
 use Rattle.answer.specs.Outcome.{Outcome, unchanged, this, final, only, done, ◌else_leave◌then◌, onward}
@@ -37,7 +38,7 @@ predict M u f =
 
 -- a new diagonal by its square, refused with 4 at or below zero; a NaN passes. A test of its own: Cholesky's may change without it
 unfoldable pub turned_diagonal : Float → Answer Float
-turned_diagonal d = refused_if (le d +0) 4 (root d)
+turned_diagonal d = refused_if (le d +0) NotPositiveDefinite (root d)
 
 -- column k: d is its new diagonal, and the cells below it turn. Refused with 4: d² is at or below zero
 unfoldable pub rotate : ℕ → ℕ → Matrix → Vector → Outcome Matrix Vector
@@ -58,7 +59,7 @@ rotated n (suc k) L v = onward L (rotated n k L v) (rotate n k)
 
 -- a variance at or below zero is refused with 3; a NaN passes
 unfoldable pub variance : Float → Answer Float
-variance s = refused_if (le s +0) 3 s
+variance s = refused_if (le s +0) SingularMatrix s
 
 -- v / s
 unfoldable pub vec_over : ℕ → Vector → Float → Vector

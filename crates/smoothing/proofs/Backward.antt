@@ -4,36 +4,39 @@ use mathlib.Core.List.{List, [], ◌∷◌, ◌++◌, map}
 use Prim.Native.Nat.{ℕ, zero, suc, ◌<◌, zero-le, suc-le-suc}
 use native.Mathlib.Nat.{le_of_suc-le-suc, not-suc-le-zero}
 use lib.ListN.{length, drop}
+use Rattle.std.specs.Prelude.{Ok, Err}
+use Rattle.answer.specs.declared.Refusal.TheVariants.{InsufficientData}
 use Rattle.answer.specs.Table.{table}
-use Rattle.answer.specs.Answer.{Answer, refused, answered, and_then, mapped}
+use Rattle.answer.specs.declared.Refusal.{Refusal}
+use Rattle.answer.specs.Answer.{Answer, and_then, mapped}
 use Rattle.smoothing.specs.Backward.{Results, listed, in_front, back, pass, BeforeLast, this, later, Same, last, slot}
 use Rattle.answer.proofs.Answers.{differ, same-refusal, same_answer}
 
 -- one step back, whatever stands after it
 module _ {G P : Type 0} where
   abbrev pub onto : (P → G → P) → Answer G → Answer (Results P) → Answer (Results P)
-  onto f h a = and_then a λ r. and_then h λ g. answered (in_front (f r.first g) r)
+  onto f h a = and_then a λ r. and_then h λ g. Ok (in_front (f r.first g) r)
 
-  step_tail : (f : P → G → P) (h : Answer G) (a : Answer (Results P)) (r : List P) → mapped listed (onto f h a) ≡ answered r → mapped listed a ≡ answered (drop 1 r)
-  step_tail f h (refused k) r e = absurd (differ e)
-  step_tail f (refused k) (answered q) r e = absurd (differ e)
-  step_tail f (answered g) (answered q) r e = ap (λ (l : List P). answered (drop 1 l)) (same_answer e)
+  step_tail : (f : P → G → P) (h : Answer G) (a : Answer (Results P)) (r : List P) → mapped listed (onto f h a) ≡ Ok r → mapped listed a ≡ Ok (drop 1 r)
+  step_tail f h (Err k) r e = absurd (differ e)
+  step_tail f (Err k) (Ok q) r e = absurd (differ e)
+  step_tail f (Ok g) (Ok q) r e = ap (λ (l : List P). Ok (drop 1 l)) (same_answer e)
 
-  step_count : (f : P → G → P) (h : Answer G) (a : Answer (Results P)) (r : List P) → mapped listed (onto f h a) ≡ answered r → length r ≡ suc (length (drop 1 r))
-  step_count f h (refused k) r e = absurd (differ e)
-  step_count f (refused k) (answered q) r e = absurd (differ e)
-  step_count f (answered g) (answered q) r e = subst (λ (l : List P). length l ≡ suc (length (drop 1 l))) (same_answer e) refl
+  step_count : (f : P → G → P) (h : Answer G) (a : Answer (Results P)) (r : List P) → mapped listed (onto f h a) ≡ Ok r → length r ≡ suc (length (drop 1 r))
+  step_count f h (Err k) r e = absurd (differ e)
+  step_count f (Err k) (Ok q) r e = absurd (differ e)
+  step_count f (Ok g) (Ok q) r e = subst (λ (l : List P). length l ≡ suc (length (drop 1 l))) (same_answer e) refl
 
   -- refused: by what stands after, or by the gain
-  step-refused : {X : Type 0} (f : P → G → P) (h : Answer G) (a : Answer (Results P)) (k : ℕ) → mapped listed (onto f h a) ≡ refused k →
-      (mapped listed a ≡ refused k → X) → (h ≡ refused k → X) → X
-  step-refused f h (refused j) k e x y = x (ap refused (same-refusal e))
-  step-refused f (refused j) (answered q) k e x y = y (ap refused (same-refusal e))
-  step-refused f (answered g) (answered q) k e x y = absurd (differ (sym e))
+  step-refused : {X : Type 0} (f : P → G → P) (h : Answer G) (a : Answer (Results P)) (k : Refusal) → mapped listed (onto f h a) ≡ Err k →
+      (mapped listed a ≡ Err k → X) → (h ≡ Err k → X) → X
+  step-refused f h (Err j) k e x y = x (ap Err (same-refusal e))
+  step-refused f (Err j) (Ok q) k e x y = y (ap Err (same-refusal e))
+  step-refused f (Ok g) (Ok q) k e x y = absurd (differ (sym e))
 
-  after-refused : (f : P → G → P) (h : Answer G) (a : Answer (Results P)) (k : ℕ) → mapped listed a ≡ refused k → mapped listed (onto f h a) ≡ refused k
-  after-refused f h (refused j) k e = ap refused (same-refusal e)
-  after-refused f h (answered q) k e = absurd (differ (sym e))
+  after-refused : (f : P → G → P) (h : Answer G) (a : Answer (Results P)) (k : Refusal) → mapped listed a ≡ Err k → mapped listed (onto f h a) ≡ Err k
+  after-refused f h (Err j) k e = ap Err (same-refusal e)
+  after-refused f h (Ok q) k e = absurd (differ (sym e))
 
 -- every element has Q
 unfoldable pub Each : {A : Type 0} → (A → Type 0) → List A → Type 0
@@ -50,12 +53,12 @@ drop_past zero [] = refl
 drop_past (suc k) [] = refl
 drop_past k (x ∷ l) = refl
 
-step-each : {G P : Type 0} (Q : P → Type 0) (f : P → G → P) → ((p : P) (g : G) → Q (f p g)) → (h : Answer G) (a : Answer (Results P)) (r : List P) → mapped listed (onto f h a) ≡ answered r
+step-each : {G P : Type 0} (Q : P → Type 0) (f : P → G → P) → ((p : P) (g : G) → Q (f p g)) → (h : Answer G) (a : Answer (Results P)) (r : List P) → mapped listed (onto f h a) ≡ Ok r
     → Each Q (drop 1 r) → Each Q r
 unfolding Each
-step-each Q f m h (refused k) r e = absurd (differ e)
-step-each Q f m (refused k) (answered q) r e = absurd (differ e)
-step-each {P = P} Q f m (answered g) (answered q) r e = subst (λ (l : List P). Each Q (drop 1 l) → Each Q l) (same_answer e) (λ rest. (m q.first g, rest))
+step-each Q f m h (Err k) r e = absurd (differ e)
+step-each Q f m (Err k) (Ok q) r e = absurd (differ e)
+step-each {P = P} Q f m (Ok g) (Ok q) r e = subst (λ (l : List P). Each Q (drop 1 l) → Each Q l) (same_answer e) (λ rest. (m q.first g, rest))
 
 -- a list with something from k on is longer than k
 pub reaches : {A : Type 0} (k : ℕ) (l : List A) {x : A} {m : List A} → drop k l ≡ x ∷ m → k < length l
@@ -77,17 +80,17 @@ from_end (b ∷ before) s = from_end before s
 
 module _ {S G P : Type 0} (start : S → P) (gain : S → Answer G) (move : S → G → P → P) where
   -- the results from any slot on are those of these slots alone
-  pub pass-tails : (k : ℕ) (l : List S) (r : List P) → k < length l → pass start gain move l ≡ answered r → pass start gain move (drop k l) ≡ answered (drop k r)
+  pub pass-tails : (k : ℕ) (l : List S) (r : List P) → k < length l → pass start gain move l ≡ Ok r → pass start gain move (drop k l) ≡ Ok (drop k r)
   unfolding pass back
   pass-tails zero l r h e = e
   pass-tails (suc k) [] r h e = absurd (not-suc-le-zero h)
   pass-tails (suc k) (s ∷ []) r h e = absurd (not-suc-le-zero (le_of_suc-le-suc h))
   pass-tails (suc k) (s ∷ t ∷ l) r h e =
       pass-tails k (t ∷ l) (drop 1 r) (le_of_suc-le-suc h) (step_tail (λ p g. move s g p) (gain s) (back start gain move t l) r e)
-      ∙ ap answered (drop_past k r)
+      ∙ ap Ok (drop_past k r)
 
   -- there is a result for each slot
-  pub pass-count : (l : List S) (r : List P) → pass start gain move l ≡ answered r → length r ≡ length l
+  pub pass-count : (l : List S) (r : List P) → pass start gain move l ≡ Ok r → length r ≡ length l
   unfolding pass back
   pass-count [] r e = absurd (differ e)
   pass-count (s ∷ []) r e = ap length (sym (same_answer e))
@@ -96,7 +99,7 @@ module _ {S G P : Type 0} (start : S → P) (gain : S → Answer G) (move : S �
       ∙ ap suc (pass-count (t ∷ l) (drop 1 r) (step_tail (λ p g. move s g p) (gain s) (back start gain move t l) r e))
 
   -- what holds of what start and move give holds of each result
-  pub pass-each : (Q : P → Type 0) → ((s : S) (g : G) (p : P) → Q (move s g p)) → (l : List S) → Each (λ s. Q (start s)) l → (r : List P) → pass start gain move l ≡ answered r → Each Q r
+  pub pass-each : (Q : P → Type 0) → ((s : S) (g : G) (p : P) → Q (move s g p)) → (l : List S) → Each (λ s. Q (start s)) l → (r : List P) → pass start gain move l ≡ Ok r → Each Q r
   unfolding pass back Each
   pass-each Q m [] h r e = absurd (differ e)
   pass-each Q m (s ∷ []) h r e = subst (Each Q) (same_answer e) (h.0, tt)
@@ -105,23 +108,23 @@ module _ {S G P : Type 0} (start : S → P) (gain : S → Answer G) (move : S �
       (pass-each Q m (t ∷ l) h.1 (drop 1 r) (step_tail (λ p g. move s g p) (gain s) (back start gain move t l) r e))
 
   -- refused with slots: some slot before the last has no gain
-  pub pass-refused : (s : S) (l : List S) (k : ℕ) → pass start gain move (s ∷ l) ≡ refused k → BeforeLast (λ s. gain s ≡ refused k) (s ∷ l)
+  pub pass-refused : (s : S) (l : List S) (k : Refusal) → pass start gain move (s ∷ l) ≡ Err k → BeforeLast (λ s. gain s ≡ Err k) (s ∷ l)
   unfolding pass back
   pass-refused s [] k e = absurd (differ (sym e))
   pass-refused s (t ∷ l) k e =
       step-refused (λ p g. move s g p) (gain s) (back start gain move t l) k e (λ h. later (pass-refused t l k h)) (λ h. this h)
 
   -- and conversely, where every slot without a gain gives the number k
-  module _ (k : ℕ) (only : (s : S) (j : ℕ) → gain s ≡ refused j → j ≡ k) where
-    number : (j : ℕ) (l : List S) → BeforeLast (λ s. gain s ≡ refused j) l → j ≡ k
+  module _ (k : Refusal) (only : (s : S) (j : Refusal) → gain s ≡ Err j → j ≡ k) where
+    number : (j : Refusal) (l : List S) → BeforeLast (λ s. gain s ≡ Err j) l → j ≡ k
     number j l (this {s = s} h) = only s j h
     number j l (later {t = t} {l = m} b) = number j (t ∷ m) b
 
-    gain-refused : (f : P → G → P) (h : Answer G) (a : Answer (Results P)) → h ≡ refused k → ((j : ℕ) → mapped listed a ≡ refused j → j ≡ k) → mapped listed (onto f h a) ≡ refused k
-    gain-refused f h (refused j) e c = ap refused (c j refl)
-    gain-refused f h (answered q) e c = ap (λ (x : Answer G). mapped listed (onto f x (answered q))) e
+    gain-refused : (f : P → G → P) (h : Answer G) (a : Answer (Results P)) → h ≡ Err k → ((j : Refusal) → mapped listed a ≡ Err j → j ≡ k) → mapped listed (onto f h a) ≡ Err k
+    gain-refused f h (Err j) e c = ap Err (c j refl)
+    gain-refused f h (Ok q) e c = ap (λ (x : Answer G). mapped listed (onto f x (Ok q))) e
 
-    pub refused-pass : (l : List S) → BeforeLast (λ s. gain s ≡ refused k) l → pass start gain move l ≡ refused k
+    pub refused-pass : (l : List S) → BeforeLast (λ s. gain s ≡ Err k) l → pass start gain move l ≡ Err k
     unfolding pass back
     refused-pass l (this {s = s} {t = t} {l = m} h) =
         gain-refused (λ p g. move s g p) (gain s) (back start gain move t m) h (λ j e. number j (t ∷ m) (pass-refused t m j e))
@@ -129,7 +132,7 @@ module _ {S G P : Type 0} (start : S → P) (gain : S → Answer G) (move : S �
         after-refused (λ p g. move s g p) (gain s) (back start gain move t m) k (refused-pass (t ∷ m) b)
 
   -- what is refused from some slot on is refused
-  pub refused_from : (k : ℕ) (l : List S) {j : ℕ} → k < length l → pass start gain move (drop k l) ≡ refused j → pass start gain move l ≡ refused j
+  pub refused_from : (k : ℕ) (l : List S) {j : Refusal} → k < length l → pass start gain move (drop k l) ≡ Err j → pass start gain move l ≡ Err j
   unfolding pass back
   refused_from zero l h e = e
   refused_from (suc k) [] h e = absurd (not-suc-le-zero h)
@@ -138,19 +141,19 @@ module _ {S G P : Type 0} (start : S → P) (gain : S → Answer G) (move : S �
       after-refused (λ p g. move s g p) (gain s) (back start gain move t l) j (refused_from k (t ∷ l) (le_of_suc-le-suc h) e)
 
   -- for a loop that goes back: the step that is answered, and the one that is refused
-  pub back_step : (s t : S) (l : List S) {r : Results P} {g : G} → back start gain move t l ≡ answered r → gain s ≡ answered g →
-      back start gain move s (t ∷ l) ≡ answered (in_front (move s g r.first) r)
+  pub back_step : (s t : S) (l : List S) {r : Results P} {g : G} → back start gain move t l ≡ Ok r → gain s ≡ Ok g →
+      back start gain move s (t ∷ l) ≡ Ok (in_front (move s g r.first) r)
   unfolding back
   back_step s t l p q = ap₂ (λ (a : Answer (Results P)) (h : Answer G). onto (λ p g. move s g p) h a) p q
 
-  pub back_stop : (s t : S) (l : List S) {r : Results P} {k : ℕ} → back start gain move t l ≡ answered r → gain s ≡ refused k →
-      back start gain move s (t ∷ l) ≡ refused k
+  pub back_stop : (s t : S) (l : List S) {r : Results P} {k : Refusal} → back start gain move t l ≡ Ok r → gain s ≡ Err k →
+      back start gain move s (t ∷ l) ≡ Err k
   unfolding back
   back_stop s t l p q = ap₂ (λ (a : Answer (Results P)) (h : Answer G). onto (λ p g. move s g p) h a) p q
 
   -- the same slots, but for what start does not read of the last
   whole : List S → Answer (Results P)
-  whole [] = refused 2
+  whole [] = Err InsufficientData
   whole (s ∷ l) = back start gain move s l
 
   pass-whole : (l : List S) → pass start gain move l ≡ mapped listed (whole l)
@@ -160,7 +163,7 @@ module _ {S G P : Type 0} (start : S → P) (gain : S → Answer G) (move : S �
 
   same_whole : (l m : List S) → Same start l m → whole l ≡ whole m
   unfolding whole back
-  same_whole l m (last e) = ap (λ (p : P). answered (record { first = p; later = [] })) e
+  same_whole l m (last e) = ap (λ (p : P). Ok (record { first = p; later = [] })) e
   same_whole l m (slot {s = s} {t = t} {u = u} {v = v} {l = l'} {m = m'} e c) =
       ap₂ (λ (x : S) (a : Answer (Results P)). onto (λ p g. move x g p) (gain x) a) e (same_whole (u ∷ l') (v ∷ m') c)
 
@@ -185,13 +188,13 @@ module _ {S G P K C : Type 0} (start : S → P) (gain : S → Answer G) (move : 
   step-parts : (s : S) (h : Answer G) (a : Answer (Results P)) →
       mapped parts (onto (λ p g. move s g p) h a) ≡ onto (λ c g. move' (κ s) g c) h (mapped parts a)
   unfolding parts
-  step-parts s h (refused k) = refl
-  step-parts s (refused k) (answered q) = refl
-  step-parts s (answered g) (answered q) = ap (λ (c : C). answered (record { first = c; later = ρ q.first ∷ map ρ q.later })) (moves s g q.first)
+  step-parts s h (Err k) = refl
+  step-parts s (Err k) (Ok q) = refl
+  step-parts s (Ok g) (Ok q) = ap (λ (c : C). Ok (record { first = c; later = ρ q.first ∷ map ρ q.later })) (moves s g q.first)
 
   back-parts : (s : S) (l : List S) → mapped parts (back start gain move s l) ≡ back start' gain' move' (κ s) (map κ l)
   unfolding back parts
-  back-parts s [] = ap (λ (c : C). answered (record { first = c; later = [] })) (starts s)
+  back-parts s [] = ap (λ (c : C). Ok (record { first = c; later = [] })) (starts s)
   back-parts s (t ∷ l) =
       step-parts s (gain s) (back start gain move t l)
       ∙ ap (λ (h : Answer G). onto (λ c g. move' (κ s) g c) h (mapped parts (back start gain move t l))) (gains s)
@@ -199,8 +202,8 @@ module _ {S G P K C : Type 0} (start : S → P) (gain : S → Answer G) (move : 
 
   listed-parts : (a : Answer (Results P)) → mapped (map ρ) (mapped listed a) ≡ mapped listed (mapped parts a)
   unfolding parts
-  listed-parts (refused k) = refl
-  listed-parts (answered q) = refl
+  listed-parts (Err k) = refl
+  listed-parts (Ok q) = refl
 
   pub pass-parts : (l : List S) → mapped (map ρ) (pass start gain move l) ≡ pass start' gain' move' (map κ l)
   unfolding pass

@@ -4,7 +4,10 @@ use mathlib.Core.Logic.{◌⊎◌, inl, inr}
 use mathlib.Core.List.{List, [], ◌∷◌, ◌++◌, map}
 use Prim.Native.Nat.{ℕ, ◌<◌}
 use lib.ListN.{length, take, drop, take-append-drop}
-use Rattle.answer.specs.Answer.{Answer, refused, answered, mapped}
+use Rattle.std.specs.Prelude.{Ok, Err}
+use Rattle.answer.specs.declared.Refusal.{Refusal}
+use Rattle.answer.specs.declared.Refusal.TheVariants.{InsufficientData, SingularMatrix}
+use Rattle.answer.specs.Answer.{Answer, mapped}
 use Rattle.algebra.specs.Matrix.{Matrix, mul, add, sub, transpose}
 use Rattle.answer.proofs.Answers.{same-refusal, same_answer, mapped-refused, refused-mapped}
 use Rattle.algebra.specs.Inverse.{inv}
@@ -17,17 +20,17 @@ use Rattle.smoothing.proofs.Backward.{pass-tails, pass-count, pass-refused, refu
 
 -- ---- a slot has no gain, and the number is 3, just where inversion rejects its predicted covariance
 module _ (n : ℕ) (F : Matrix) (s : Slot) where
-  gain_3 : (j : ℕ) → slot_gain n F s ≡ refused j → j ≡ 3
+  gain_refusal : (j : Refusal) → slot_gain n F s ≡ Err j → j ≡ SingularMatrix
   unfolding slot_gain
-  gain_3 j e = inv-refused n s.predicted.covariance j (mapped-refused _ (inv n s.predicted.covariance) j e)
+  gain_refusal j e = inv-refused n s.predicted.covariance j (mapped-refused _ (inv n s.predicted.covariance) j e)
 
-  rejects : (j : ℕ) → slot_gain n F s ≡ refused j → Rejected n s
+  rejects : (j : Refusal) → slot_gain n F s ≡ Err j → Rejected n s
   unfolding slot_gain
-  rejects j e = mapped-refused _ (inv n s.predicted.covariance) 3 (e ∙ ap refused (gain_3 j e))
+  rejects j e = mapped-refused _ (inv n s.predicted.covariance) SingularMatrix (e ∙ ap Err (gain_refusal j e))
 
-  no_gain : Rejected n s → slot_gain n F s ≡ refused 3
+  no_gain : Rejected n s → slot_gain n F s ≡ Err SingularMatrix
   unfolding slot_gain
-  no_gain h = refused-mapped _ (inv n s.predicted.covariance) 3 h
+  no_gain h = refused-mapped _ (inv n s.predicted.covariance) SingularMatrix h
 
 module _ {S : Type 0} (slot_of : S → Slot) (n : ℕ) (F : S → Matrix) where
   abbrev start : S → Estimate
@@ -46,36 +49,36 @@ module _ {S : Type 0} (slot_of : S → Slot) (n : ℕ) (F : S → Matrix) where
   Rejects s = Rejected n (slot_of s)
 
   -- ---- refusals
-  rejected : (k : ℕ) (l : List S) → BeforeLast (λ s. gain_of s ≡ refused k) l → BeforeLast Rejects l × (k ≡ 3)
-  rejected k l (this {s = s} h) = (this (rejects n (F s) (slot_of s) k h), gain_3 n (F s) (slot_of s) k h)
+  rejected : (k : Refusal) (l : List S) → BeforeLast (λ s. gain_of s ≡ Err k) l → BeforeLast Rejects l × (k ≡ SingularMatrix)
+  rejected k l (this {s = s} h) = (this (rejects n (F s) (slot_of s) k h), gain_refusal n (F s) (slot_of s) k h)
   rejected k l (later {t = t} {l = m} b) = let r = rejected k (t ∷ m) b in (later r.0, r.1)
 
-  no_gains : (l : List S) → BeforeLast Rejects l → BeforeLast (λ s. gain_of s ≡ refused 3) l
+  no_gains : (l : List S) → BeforeLast Rejects l → BeforeLast (λ s. gain_of s ≡ Err SingularMatrix) l
   no_gains l (this {s = s} h) = this (no_gain n (F s) (slot_of s) h)
   no_gains l (later {t = t} {l = m} b) = later (no_gains (t ∷ m) b)
 
-  pub refusals_to : (l : List S) (k : ℕ) → smoothed_by l ≡ refused k → ((l ≡ []) × (k ≡ 2)) ⊎ (BeforeLast Rejects l × (k ≡ 3))
+  pub refusals_to : (l : List S) (k : Refusal) → smoothed_by l ≡ Err k → ((l ≡ []) × (k ≡ InsufficientData)) ⊎ (BeforeLast Rejects l × (k ≡ SingularMatrix))
   unfolding pass
   refusals_to [] k e = inl (refl, sym (same-refusal e))
   refusals_to (s ∷ l) k e = inr (rejected k (s ∷ l) (pass-refused start gain_of step s l k e))
 
-  pub refusals_from : (l : List S) (k : ℕ) → ((l ≡ []) × (k ≡ 2)) ⊎ (BeforeLast Rejects l × (k ≡ 3)) → smoothed_by l ≡ refused k
+  pub refusals_from : (l : List S) (k : Refusal) → ((l ≡ []) × (k ≡ InsufficientData)) ⊎ (BeforeLast Rejects l × (k ≡ SingularMatrix)) → smoothed_by l ≡ Err k
   unfolding pass
-  refusals_from l k (inl p) = ap smoothed_by p.0 ∙ ap refused (sym p.1)
-  refusals_from l k (inr p) = refused-pass start gain_of step 3 (λ s. gain_3 n (F s) (slot_of s)) l (no_gains l p.0) ∙ ap refused (sym p.1)
+  refusals_from l k (inl p) = ap smoothed_by p.0 ∙ ap Err (sym p.1)
+  refusals_from l k (inr p) = refused-pass start gain_of step SingularMatrix (λ s. gain_refusal n (F s) (slot_of s)) l (no_gains l p.0) ∙ ap Err (sym p.1)
 
   -- ---- answers
-  pub count : (l : List S) (r : List Estimate) → smoothed_by l ≡ answered r → length r ≡ length l
+  pub count : (l : List S) (r : List Estimate) → smoothed_by l ≡ Ok r → length r ≡ length l
   count l r e = pass-count start gain_of step l r e
 
-  pub tails : (l : List S) (r : List Estimate) → smoothed_by l ≡ answered r → (k : ℕ) → k < length l → smoothed_by (drop k l) ≡ answered (drop k r)
+  pub tails : (l : List S) (r : List Estimate) → smoothed_by l ≡ Ok r → (k : ℕ) → k < length l → smoothed_by (drop k l) ≡ Ok (drop k r)
   tails l r e k h = pass-tails start gain_of step k l r h e
 
-  one-slot : (s : S) → smoothed_by (s ∷ []) ≡ answered (start s ∷ [])
+  one-slot : (s : S) → smoothed_by (s ∷ []) ≡ Ok (start s ∷ [])
   unfolding pass back
   one-slot s = refl
 
-  pub lasts : (l : List S) (r : List Estimate) → smoothed_by l ≡ answered r → (before : List S) (s : S) → l ≡ before ++ (s ∷ [])
+  pub lasts : (l : List S) (r : List Estimate) → smoothed_by l ≡ Ok r → (before : List S) (s : S) → l ≡ before ++ (s ∷ [])
       → (q : List Estimate) × (r ≡ q ++ (start s ∷ []))
   lasts l r e before s p =
       let k = length before in
@@ -83,7 +86,7 @@ module _ {S : Type 0} (slot_of : S → Slot) (n : ℕ) (F : S → Matrix) where
       let d : drop k r ≡ start s ∷ [] = same_answer (sym (tails l r e k (reaches k l c)) ∙ ap smoothed_by c ∙ one-slot s) in
       (take k r, sym (take-append-drop k r) ∙ ap (λ (x : List Estimate). take k r ++ x) d)
 
-  pub agreeing : (l m : List S) (r q : List Estimate) → smoothed_by l ≡ answered r → smoothed_by m ≡ answered q
+  pub agreeing : (l m : List S) (r q : List Estimate) → smoothed_by l ≡ Ok r → smoothed_by m ≡ Ok q
       → (i j : ℕ) → Same start (drop i l) (drop j m) → drop i r ≡ drop j q
   agreeing l m r q h g i j c =
       let b = same-reaches start i j l m c in

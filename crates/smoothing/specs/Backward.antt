@@ -1,7 +1,8 @@
 -- A pass from the last slot back to the first, for any kind of slot S, of gain G and of result P. Definitions only.
 -- The last slot's result is `start` of it. An earlier slot's is `move` of it, of its gain, and of the result of the slot after it; where the slot has no gain, the pass is refused.
-use Rattle.std.specs.Prelude.{◌≡◌, List, [], ◌∷◌}
-use Rattle.answer.specs.Answer.{Answer, refused, answered, and_then, mapped}
+use Rattle.std.specs.Prelude.{◌≡◌, List, [], ◌∷◌, Ok, Err}
+use Rattle.answer.specs.declared.Refusal.TheVariants.{InsufficientData}
+use Rattle.answer.specs.Answer.{Answer, and_then, mapped}
 
 -- at least one result: that of the first slot, and those of the later ones
 pub record Results (P : Type 0) : Type 0 where
@@ -18,12 +19,12 @@ in_front p r = record { first = p; later = listed r }
 module _ {S G P : Type 0} (start : S → P) (gain : S → Answer G) (move : S → G → P → P) where
   -- slot s and the slots l after it
   unfoldable pub back : S → List S → Answer (Results P)
-  back s [] = answered (record { first = start s; later = [] })
-  back s (t ∷ l) = and_then (back t l) λ r. and_then (gain s) λ g. answered (in_front (move s g r.first) r)
+  back s [] = Ok (record { first = start s; later = [] })
+  back s (t ∷ l) = and_then (back t l) λ r. and_then (gain s) λ g. Ok (in_front (move s g r.first) r)
 
   -- all slots; with none, refused with 2
   unfoldable pub pass : List S → Answer (List P)
-  pass [] = refused 2
+  pass [] = Err InsufficientData
   pass (s ∷ l) = mapped listed (back s l)
 
 -- ---- words for what is said of a pass

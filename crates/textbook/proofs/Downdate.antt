@@ -5,7 +5,9 @@ use Prim.Native.Nat.{ℕ, zero, suc, ◌≤◌, ◌<◌}
 use native.Mathlib.Nat.{le_refl}
 use native.Mathlib.Omega.{arith}
 use borrow.Author.Tests.{lt-ltb, le-ltb}
-use Rattle.answer.specs.Answer.{answered, refused_if}
+use Rattle.std.specs.Prelude.{Ok}
+use Rattle.answer.specs.declared.Refusal.TheVariants.{NotPositiveDefinite}
+use Rattle.answer.specs.Answer.{refused_if}
 use Rattle.answer.specs.Outcome.{unchanged, done, final, ◌else_leave◌then◌}
 use Rattle.answer.proofs.Choice.{cond-true, cond-false}
 use Rattle.answer.proofs.Answers.{number, result, result_of}
@@ -29,7 +31,7 @@ module _ (N : Arithmetic) (X : Exact N) (n : ℕ) (L₀ : M.Mat N) (v₀ : M.Vec
   one-column k hk L v u = by (N.at_most (D.square N k L v) N.nought) refl
     where
       by : (b : Bool) → N.at_most (D.square N k L v) N.nought ≡ b → Ends L (Turned (suc k))
-          (refused_if b 4 (N.root (D.square N k L v)) else_leave unchanged then λ d.
+          (refused_if b NotPositiveDefinite (N.root (D.square N k L v)) else_leave unchanged then λ d.
           done (D.turned_vector N (D.textbook N) n k d L v) (D.turned_factor N n k d L v))
       by true e = number tt
       by false e = result (Column.more N X n L₀ v₀ k hk L v u e)
@@ -65,6 +67,6 @@ module _ (N : Arithmetic) (X : Exact N) (n : ℕ) (L₀ : M.Mat N) (v₀ : M.Vec
         end : (i : ℕ) → i < n → Column.from N X n n v i ≡ N.nought
         end i hi = cond-true N.nought _ (lt-ltb i n hi)
 
-    pub downdated : (v' : M.Vec N) → (D.rotated N (D.textbook N) n n L₀ v₀).told ≡ answered v'
+    pub downdated : (v' : M.Vec N) → (D.rotated N (D.textbook N) n n L₀ v₀).told ≡ Ok v'
         → M.Downdated N n L₀ v₀ (final L₀ (D.rotated N (D.textbook N) n n L₀ v₀).left)
     downdated v' e = turned-all (final L₀ (D.rotated N (D.textbook N) n n L₀ v₀).left) v' (result_of (all-columns n (le_refl n)) e)

@@ -1,6 +1,7 @@
 -- Outcomes made in steps: what is known of the steps is known of the whole. Assumes nothing.
 use mathlib.Core.Path.{◌≡◌, refl, sym, subst}
-use Rattle.answer.specs.Answer.{Answer, refused, answered}
+use Rattle.std.specs.Prelude.{Ok, Err}
+use Rattle.answer.specs.Answer.{Answer}
 use Rattle.answer.specs.Outcome.{Left, unchanged, this, Outcome, final, later, onward}
 use Rattle.answer.proofs.Answers.{Told, number, result_of}
 
@@ -18,7 +19,7 @@ module _ {S : Type 0} where
   ends-onward {A} {B} P Q s o f e h = by o.told o.left e
     where
       by : (a : Answer A) (l : Left S) → Told (λ k. Unit {0}) (P (final s l)) a → Ends s Q (onward s (record { told = a; left = l }) f)
-      by (refused k) l t = number tt
-      by (answered a) l t =
+      by (Err k) l t = number tt
+      by (Ok a) l t =
           let p = f (final s l) a in
           subst (λ (x : S). Told (λ k. Unit {0}) (Q x) p.told) (sym (final-later s l p.left)) (h (final s l) a (result_of t refl))

@@ -4,8 +4,9 @@ use mathlib.Core.List.{[], ◌∷◌}
 use Prim.Native.Nat.{ℕ}
 use native.Mathlib.Omega.{arith}
 use lib.IntN.{nat_abs}
+use Rattle.std.specs.Prelude.{Ok, Err}
 use Rattle.root.specs.Root.{isqrt}
-use Rattle.answer.specs.Answer.{refused, answered}
+use Rattle.answer.specs.declared.Refusal.TheVariants.{NotPositiveDefinite}
 use Rattle.answer.specs.Outcome.{done}
 use Rattle.textbook.specs.Matrices as M
 use Rattle.textbook.specs.Elimination as E
@@ -31,11 +32,11 @@ other : two_by_two (+ 16) (− 60) (− 60) (+ 4194) ≡ two_by_two (+ 16) (− 
 unfolding last
 other e = let f : ◌≡◌ {A = ℕ} 4194 3825 = ap last e in omega arith
 
-factor : C.cholesky fractions 2 (two_by_two (+ 4) (+ 2) (+ 2) (+ 5)) ≡ answered (two_by_two (+ 2) (+ 0) (+ 1) (+ 2))
+factor : C.cholesky fractions 2 (two_by_two (+ 4) (+ 2) (+ 2) (+ 5)) ≡ Ok (two_by_two (+ 2) (+ 0) (+ 1) (+ 2))
 unfolding divisor lowest isqrt M.sum_of M.dot C.diagonal_of C.left_cells C.factor_row C.factor_rows C.cholesky
 factor = refl
 
-no_factor : C.cholesky fractions 2 (two_by_two (+ 1) (+ 1) (+ 1) (+ 1)) ≡ refused 4
+no_factor : C.cholesky fractions 2 (two_by_two (+ 1) (+ 1) (+ 1) (+ 1)) ≡ Err NotPositiveDefinite
 unfolding divisor lowest isqrt M.sum_of M.dot C.diagonal_of C.left_cells C.factor_row C.factor_rows C.cholesky
 no_factor = refl
 

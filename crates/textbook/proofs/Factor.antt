@@ -11,8 +11,10 @@ use lib.Dec.{leb}
 use borrow.Author.Tests.{leb-true, leb-false}
 use lib.ListN.{length, get_or, length-append, get_or-append}
 use lib.Seq.{get_or_at}
+use Rattle.std.specs.Prelude.{Ok}
+use Rattle.answer.specs.declared.Refusal.TheVariants.{NotPositiveDefinite}
 use Rattle.answer.proofs.Choice.{never}
-use Rattle.answer.specs.Answer.{answered, mapped, refused_if}
+use Rattle.answer.specs.Answer.{mapped, refused_if}
 use Rattle.answer.specs.Table.{pad_to}
 use Rattle.answer.proofs.Tables.{get_or-pad_to}
 use Rattle.answer.proofs.Answers.{Told, number, result, result_of, told-then}
@@ -175,7 +177,7 @@ module _ (N : Arithmetic) (X : Exact N) (n : ℕ) where
       where
         by : (b : Bool) → N.no_diagonal rest ≡ b
             → Told (λ k. Unit {0}) (Rows A (suc i))
-            (mapped (λ w. L ++ w ∷ []) (mapped (λ y. pad_to n N.nought (v ++ y ∷ [])) (refused_if b 4 (N.root rest))))
+            (mapped (λ w. L ++ w ∷ []) (mapped (λ y. pad_to n N.nought (v ++ y ∷ [])) (refused_if b NotPositiveDefinite (N.root rest))))
         by true e = number tt
         by false e = result (more e)
 
@@ -190,7 +192,7 @@ module _ (N : Arithmetic) (X : Exact N) (n : ℕ) where
       })
   all-rows A (suc i) h = told-then (all-rows A i (omega arith)) (λ L r. told-row A i h L r)
 
-  module _ (A L : M.Mat N) (e : C.cholesky N n A ≡ answered L) where
+  module _ (A L : M.Mat N) (e : C.cholesky N n A ≡ Ok L) where
     reached : Rows A n L
     unfolding C.cholesky
     reached = result_of (all-rows A n (le_refl n)) e

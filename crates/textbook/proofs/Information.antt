@@ -2,7 +2,8 @@
 use mathlib.Core.Path.{◌≡◌, refl, sym, ap, ◌∙◌, subst, subst⁻¹}
 use Prim.Native.Nat.{ℕ, ◌<◌}
 use native.Mathlib.Omega.{arith}
-use Rattle.answer.specs.Answer.{Answer, refused, answered}
+use Rattle.std.specs.Prelude.{Ok, Err}
+use Rattle.answer.specs.Answer.{Answer}
 use Rattle.answer.specs.Outcome.{Outcome, unchanged, this, final, done, ◌else_leave◌then◌}
 use Rattle.answer.proofs.Tables.{table_ext}
 use Rattle.answer.proofs.Answers.{differ, Told, result_of, told-mapped}
@@ -18,7 +19,7 @@ use Rattle.textbook.proofs.Inverse.{told-inverse}
 use Rattle.textbook.proofs.InversionLemma.{information-inverse, information-state}
 
 module _ (N : Arithmetic) (X : Exact N) (n : ℕ) (e : Li.Estimate N) (o : In.Information N) where
-  pub informs_start : In.of_estimate N n e ≡ answered o → In.Informs N n e o
+  pub informs_start : In.of_estimate N n e ≡ Ok o → In.Informs N n e o
   unfolding In.of_estimate
   informs_start a =
       result_of {P = In.Informs N n e} (told-mapped _ (told-inverse N X n e.covariance) (λ W g. record { matrix = g; vector = refl })) a
@@ -40,7 +41,7 @@ module _ (N : Arithmetic) (X : Exact N) (n : ℕ) (e : Li.Estimate N) (o : In.In
           ∙ ap (λ (Z : M.Mat N). M.mul N n n 1 Z (Pr.upright N X n e.state)) g.before
           ∙ Pr.identity-left N X n 1 (Pr.upright N X n e.state)
 
-  pub informs_state : (x : M.Vec N) → In.Informs N n e o → In.state N n o ≡ answered x → (i : ℕ) → i < n → M.at N x i ≡ M.at N e.state i
+  pub informs_state : (x : M.Vec N) → In.Informs N n e o → In.state N n o ≡ Ok x → (i : ℕ) → i < n → M.at N x i ≡ M.at N e.state i
   unfolding In.state In.covariance
   informs_state x p a =
       result_of {P = λ (w : M.Vec N). (i : ℕ) → i < n → M.at N w i ≡ M.at N e.state i}
@@ -55,7 +56,7 @@ module _ (N : Arithmetic) (X : Exact N) (n : ℕ) (e : Li.Estimate N) (o : In.In
       ∙ ap (M.mul N n n n e.covariance) g.after
       ∙ Pr.identity-right N X n n e.covariance
 
-  pub informs_covariance : (P : M.Mat N) → In.Informs N n e o → In.covariance N n o ≡ answered P
+  pub informs_covariance : (P : M.Mat N) → In.Informs N n e o → In.covariance N n o ≡ Ok P
       → (i j : ℕ) → i < n → j < n → M.cell N P i j ≡ M.cell N e.covariance i j
   unfolding In.covariance
   informs_covariance P p a i j hi hj =
@@ -100,8 +101,8 @@ module _ (N : Arithmetic) (X : Exact N) (n : ℕ) (e : Li.Estimate N) (o : In.In
         with-inverse : (P : M.Mat N) → M.Inverse N n o.matrix P → (s : Answer (M.Mat N))
             → Told (λ k. Unit {0}) (M.Inverse N n (Li.propagated N n n A P Q)) s
             → after P s ≡ done tt o' → In.Informs N n (Li.predicted N n i A B Q u e) o'
-        with-inverse P g (refused k) t d = absurd (differ (ap (λ (w : Result). w.told) d))
-        with-inverse P g (answered W) t d =
+        with-inverse P g (Err k) t d = absurd (differ (ap (λ (w : Result). w.told) d))
+        with-inverse P g (Ok W) t d =
             subst (In.Informs N n (Li.predicted N n i A B Q u e)) (ap (λ (w : Result). final o w.left) d) (record {
               matrix = subst (λ (Z : M.Mat N). M.Inverse N n Z W) (covariance-same P g) (result_of t refl);
               vector = ap (M.matvec N n n W) (state-same P g);
@@ -110,8 +111,8 @@ module _ (N : Arithmetic) (X : Exact N) (n : ℕ) (e : Li.Estimate N) (o : In.In
         by : (s : Answer (M.Mat N)) → Told (λ k. Unit {0}) (M.Inverse N n o.matrix) s
             → (s else_leave unchanged then λ P. after P (inv N n (Li.propagated N n n A P Q))) ≡ done tt o'
             → In.Informs N n (Li.predicted N n i A B Q u e) o'
-        by (refused k) t d = absurd (differ (ap (λ (w : Result). w.told) d))
-        by (answered P) t d =
+        by (Err k) t d = absurd (differ (ap (λ (w : Result). w.told) d))
+        by (Ok P) t d =
             with-inverse P (result_of t refl) (inv N n (Li.propagated N n n A P Q)) (told-inverse N X n (Li.propagated N n n A P Q)) d
 
   module _ (m : ℕ) (H R W : M.Mat N) (z : M.Vec N) (p : In.Informs N n e o) where
@@ -119,7 +120,7 @@ module _ (N : Arithmetic) (X : Exact N) (n : ℕ) (e : Li.Estimate N) (o : In.In
     o' = In.informed N n m H W z o
 
     -- what the update leaves, where R is inverted
-    leaves : inv N m R ≡ answered W → final o (In.update N n m H R z o).left ≡ o'
+    leaves : inv N m R ≡ Ok W → final o (In.update N n m H R z o).left ≡ o'
     unfolding In.update
     leaves b =
         ap (λ (r : Answer (M.Mat N)). final o (r else_leave unchanged then λ Z.
@@ -128,8 +129,8 @@ module _ (N : Arithmetic) (X : Exact N) (n : ℕ) (e : Li.Estimate N) (o : In.In
         ∙ by (In.state N n o')
       where
         by : (s : Answer (M.Vec N)) → final o (s else_leave (this o') then λ x. done (Li.innovation N n m H x z) o').left ≡ o'
-        by (refused k) = refl
-        by (answered x) = refl
+        by (Err k) = refl
+        by (Ok x) = refl
 
     informs_corrected : M.Inverse N m R W → (S⁻¹ : M.Mat N) → M.Inverse N m (Li.propagated N m n H e.covariance R) S⁻¹
         → In.Informs N n (Li.corrected N n m H z e S⁻¹) o'
@@ -141,7 +142,7 @@ module _ (N : Arithmetic) (X : Exact N) (n : ℕ) (e : Li.Estimate N) (o : In.In
           ∙ sym (information-state N X n m e.covariance o.matrix R W H S⁻¹ p.matrix q g e.state z);
     }
 
-    pub informs_update : (y : M.Vec N) (u : Li.Estimate N) → Li.update N n m H R z e ≡ done y u → inv N m R ≡ answered W
+    pub informs_update : (y : M.Vec N) (u : Li.Estimate N) → Li.update N n m H R z e ≡ done y u → inv N m R ≡ Ok W
         → In.Informs N n u (final o (In.update N n m H R z o).left)
     unfolding Li.update
     informs_update y u a b =
@@ -153,7 +154,7 @@ module _ (N : Arithmetic) (X : Exact N) (n : ℕ) (e : Li.Estimate N) (o : In.In
         by : (s : Answer (M.Mat N)) → Told (λ k. Unit {0}) (M.Inverse N m S) s
             → (s else_leave unchanged then λ Z. done (Li.innovation N n m H e.state z) (Li.corrected N n m H z e Z)) ≡ done y u
             → In.Informs N n u o'
-        by (refused k) t d = absurd (differ (ap (λ (w : Outcome (Li.Estimate N) (M.Vec N)). w.told) d))
-        by (answered Z) t d =
+        by (Err k) t d = absurd (differ (ap (λ (w : Outcome (Li.Estimate N) (M.Vec N)). w.told) d))
+        by (Ok Z) t d =
             subst (λ (w : Li.Estimate N). In.Informs N n w o') (ap (λ (w : Outcome (Li.Estimate N) (M.Vec N)). final e w.left) d)
             (informs_corrected (result_of (told-inverse N X m R) b) Z (result_of t refl))

@@ -7,6 +7,7 @@ use native.Mathlib.Nat.{le_refl}
 use native.Mathlib.Omega.{arith}
 use lib.Dec.{eqb}
 use borrow.Author.Tests.{eq-eqb, ne_eqb, eqb-true, eqb-false}
+use Rattle.answer.specs.declared.Refusal.TheVariants.{SingularMatrix}
 use Rattle.answer.proofs.Choice.{cond-true, cond-false, never}
 use Rattle.answer.specs.Answer.{refused_if}
 use Rattle.answer.specs.Table.{table}
@@ -228,7 +229,7 @@ module _ (N : Arithmetic) (X : Exact N) (n : ℕ) where
       p = E.pivot_row N w.left c (n - suc c)
 
       by : (b : Bool) → N.no_pivot (N.magnitude (M.cell N w.left p c)) ≡ b
-          → Told (λ k. Unit {0}) (Reached A (suc c)) (refused_if b 3 (E.cleared N n c (E.exchanged N n p c w)))
+          → Told (λ k. Unit {0}) (Reached A (suc c)) (refused_if b SingularMatrix (E.cleared N n c (E.exchanged N n p c w)))
       by true e = number tt
       by false e = let q = pivot-range w.left c (n - suc c) in result (more A c hc w r p q.0 (omega (arith, q.1)) e)
 

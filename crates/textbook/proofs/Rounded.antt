@@ -4,7 +4,10 @@ use mathlib.Core.Bool.{Bool, true, false, cond}
 use mathlib.Core.List.{[], ◌∷◌, ◌++◌}
 use Prim.Native.Nat.{ℕ, zero, suc, ◌+◌, ◌-◌}
 use lib.Ieee.{Float}
-use Rattle.answer.specs.Answer.{Answer, refused, answered, and_then, mapped, refused_if}
+use Rattle.std.specs.Prelude.{Ok, Err}
+use Rattle.answer.specs.declared.Refusal.{Refusal}
+use Rattle.answer.specs.declared.Refusal.TheVariants.{SingularMatrix}
+use Rattle.answer.specs.Answer.{Answer, and_then, mapped, refused_if}
 use Rattle.scalar.specs.Number as Number
 use Rattle.answer.specs.Table.{pad_to}
 use Rattle.answer.specs.Outcome.{onward}
@@ -37,7 +40,7 @@ exchanged_is : (n p c : ℕ) (w : E.Augmented rounded) → to_l (E.exchanged rou
 unfolding E.exchanged Inverse.exchanged E.swapped Inverse.swapped
 exchanged_is n p c w = refl
 
-mapped_if : {A B : Type 0} (f : A → B) (b : Bool) (k : ℕ) (a : A) → mapped f (refused_if b k a) ≡ refused_if b k (f a)
+mapped_if : {A B : Type 0} (f : A → B) (b : Bool) (k : Refusal) (a : A) → mapped f (refused_if b k a) ≡ refused_if b k (f a)
 mapped_if f true k a = refl
 mapped_if f false k a = refl
 
@@ -45,16 +48,16 @@ column_is : (n c : ℕ) (w : E.Augmented rounded) → mapped to_l (E.column roun
 unfolding E.column Inverse.column
 column_is n c w =
     let p = E.pivot_row rounded w.left c (n - suc c) in
-    mapped_if to_l (rounded.no_pivot (rounded.magnitude (Matrix.cell w.left p c))) 3 (E.cleared rounded n c (E.exchanged rounded n p c w))
-    ∙ ap (refused_if (rounded.no_pivot (rounded.magnitude (Matrix.cell w.left p c))) 3)
+    mapped_if to_l (rounded.no_pivot (rounded.magnitude (Matrix.cell w.left p c))) SingularMatrix (E.cleared rounded n c (E.exchanged rounded n p c w))
+    ∙ ap (refused_if (rounded.no_pivot (rounded.magnitude (Matrix.cell w.left p c))) SingularMatrix)
     (cleared_is n c (E.exchanged rounded n p c w) ∙ ap (Inverse.cleared n c) (exchanged_is n p c w))
-    ∙ ap (λ (q : ℕ). refused_if (Inverse.no_pivot (rounded.magnitude (Matrix.cell w.left q c))) 3
+    ∙ ap (λ (q : ℕ). refused_if (Inverse.no_pivot (rounded.magnitude (Matrix.cell w.left q c))) SingularMatrix
     (Inverse.cleared n c (Inverse.exchanged n q c (to_l w)))) (pivot_is w.left c (n - suc c))
 
 mapped-then : {A B C D : Type 0} (f : A → B) (g : C → D) (a : Answer A) (h : A → Answer C) (k : B → Answer D)
     → ((x : A) → mapped g (h x) ≡ k (f x)) → mapped g (and_then a h) ≡ and_then (mapped f a) k
-mapped-then f g (refused j) h k e = refl
-mapped-then f g (answered x) h k e = e x
+mapped-then f g (Err j) h k e = refl
+mapped-then f g (Ok x) h k e = e x
 
 columns_is : (n c : ℕ) (A : Matrix.Matrix) → mapped to_l (E.columns rounded n c A) ≡ Inverse.columns n c A
 unfolding E.columns Inverse.columns M.identity Matrix.identity
@@ -64,8 +67,8 @@ columns_is n (suc c) A =
     ∙ ap (λ (o : Answer Inverse.Augmented). and_then o (λ w. Inverse.column n c w)) (columns_is n c A)
 
 mapped-mapped : {A B C : Type 0} (f : A → B) (g : B → C) (a : Answer A) → mapped (λ x. g (f x)) a ≡ mapped g (mapped f a)
-mapped-mapped f g (refused k) = refl
-mapped-mapped f g (answered x) = refl
+mapped-mapped f g (Err k) = refl
+mapped-mapped f g (Ok x) = refl
 
 -- the definition that the code's contract cites is the elimination in rounded arithmetic
 pub inv_is : (n : ℕ) (A : Matrix.Matrix) → E.inv rounded n A ≡ Inverse.inv n A

@@ -1,7 +1,8 @@
 -- At rounded binary64 the generic updates are the filtering crate's. Assumes nothing.
 use mathlib.Core.Path.{◌≡◌, refl, ap, ◌∙◌}
 use Prim.Native.Nat.{ℕ}
-use Rattle.answer.specs.Answer.{Answer, refused, answered, mapped}
+use Rattle.std.specs.Prelude.{Ok, Err}
+use Rattle.answer.specs.Answer.{Answer, mapped}
 use Rattle.answer.specs.Outcome.{Outcome, Left, unchanged, this, done, ◌else_leave◌then◌}
 use Rattle.answer.proofs.Tables.{table_ext}
 use Rattle.algebra.specs.Matrix as Matrix
@@ -67,8 +68,8 @@ alike : {A S T R : Type 0} (f : S → T) (a b : Answer A) (l : Left S) (g : A �
 alike {A} {S} {T} {R} f a b l g h p e = by a ∙ ap (λ (o : Answer A). o else_leave (left_as f l) then h) p
   where
     by : (o : Answer A) → outcome_as f (o else_leave l then g) ≡ (o else_leave (left_as f l) then h)
-    by (refused k) = refl
-    by (answered x) = e x
+    by (Err k) = refl
+    by (Ok x) = e x
 
 module _ (M' : Filter.Motion) (u : Matrix.Vector) where
   predicted_is : (x : Matrix.Vector) → Li.predicted_state rounded M'.n M'.i M'.a M'.b u x ≡ Filter.predicted_state M' u x
@@ -119,8 +120,8 @@ module _ (n : ℕ) where
     where
       fused : (a : Answer Matrix.Matrix) → mapped informed (mapped (λ W. In.information rounded n W e.state) a)
           ≡ mapped (λ W. informed (In.information rounded n W e.state)) a
-      fused (refused k) = refl
-      fused (answered W) = refl
+      fused (Err k) = refl
+      fused (Ok W) = refl
 
   pub covariance-answered : (o : In.Information rounded) → In.covariance rounded n o ≡ Information.covariance n (informed o)
   unfolding In.covariance Information.covariance

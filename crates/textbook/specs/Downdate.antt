@@ -1,6 +1,7 @@
 -- The rank-one downdate of a factor, in any arithmetic: from L to the lower L' with L' × transposed L' = L × transposed L - v × transposed v.
 -- Column by column, by rotations; Golub and Van Loan, 6.5.4. The filtering crate's downdate is `rotated` at `rounded` and `rust`. Definitions only.
 use Rattle.std.specs.Prelude.{ℕ, zero, suc, cond, eqb, ltb}
+use Rattle.answer.specs.declared.Refusal.TheVariants.{NotPositiveDefinite}
 use Rattle.answer.specs.Answer.{Answer, refused_if}
 use Rattle.answer.specs.Table.{table}
 use Rattle.answer.specs.Outcome.{Outcome, unchanged, only, done, ◌else_leave◌then◌, onward}
@@ -24,7 +25,7 @@ module _ (N : Arithmetic) where
   square k L v = N.minus (N.times (cell N L k k) (cell N L k k)) (N.times (at N v k) (at N v k))
 
   unfoldable pub turned_diagonal : N.Num → Answer N.Num
-  turned_diagonal d = refused_if (N.at_most d N.nought) 4 (N.root d)
+  turned_diagonal d = refused_if (N.at_most d N.nought) NotPositiveDefinite (N.root d)
 
   -- ---- column k, whose new diagonal is d: the rotation has the cosine d / L k k and the sine v k / L k k
 

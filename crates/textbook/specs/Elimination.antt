@@ -1,7 +1,8 @@
 -- Inversion by Gauss and Jordan's elimination with partial pivoting, in any arithmetic: the algebra crate's is this one at `rounded`.
 -- The choice of the pivot: Golub and Van Loan, 3.4. Definitions only.
-use Rattle.std.specs.Prelude.{ℕ, zero, suc, ◌+◌, ◌-◌, cond, eqb}
-use Rattle.answer.specs.Answer.{Answer, answered, and_then, mapped, refused_if}
+use Rattle.std.specs.Prelude.{ℕ, zero, suc, ◌+◌, ◌-◌, cond, eqb, Ok}
+use Rattle.answer.specs.declared.Refusal.TheVariants.{SingularMatrix}
+use Rattle.answer.specs.Answer.{Answer, and_then, mapped, refused_if}
 use Rattle.answer.specs.Table.{table}
 use Rattle.textbook.specs.Arithmetic.{Arithmetic}
 use Rattle.textbook.specs.Matrices.{Vec, Mat, at, cell, mat, identity}
@@ -48,11 +49,11 @@ module _ (N : Arithmetic) where
   unfoldable pub column : ℕ → ℕ → Augmented → Answer Augmented
   column n c w =
       let p = pivot_row w.left c (n - suc c) in
-      refused_if (N.no_pivot (N.magnitude (cell N w.left p c))) 3 (cleared n c (exchanged n p c w))
+      refused_if (N.no_pivot (N.magnitude (cell N w.left p c))) SingularMatrix (cleared n c (exchanged n p c w))
 
   -- the first c columns
   unfoldable pub columns : ℕ → ℕ → Mat N → Answer Augmented
-  columns n zero A = answered (record { left = A; right = identity N n })
+  columns n zero A = Ok (record { left = A; right = identity N n })
   columns n (suc c) A = and_then (columns n c A) (λ w. column n c w)
 
   unfoldable pub inv : ℕ → Mat N → Answer (Mat N)

@@ -1,6 +1,6 @@
 -- Worked in fractions: a factor, an update of each filter, and one downdate by both forms, of which the Rust's does not downdate. Definitions only.
-use Rattle.std.specs.Prelude.{◌≡◌, [], ◌∷◌, ℕ, pos, neg_ℤ}
-use Rattle.answer.specs.Answer.{refused, answered}
+use Rattle.std.specs.Prelude.{◌≡◌, [], ◌∷◌, ℕ, pos, neg_ℤ, Ok, Err}
+use Rattle.answer.specs.declared.Refusal.TheVariants.{NotPositiveDefinite}
 use Rattle.answer.specs.Outcome.{this, done}
 use Rattle.textbook.specs.Matrices.{Vec, Mat, at, mat, mul, transpose, sub}
 use Rattle.textbook.specs.Factor.{cholesky}
@@ -54,8 +54,8 @@ by_rust = two_by_two (+ 4) (+ 0) (− 15) (+ 63)
 
 pub record Example : Type 0 where
   -- a factor; and none where nothing is left of a diagonal
-  pub factor : cholesky fractions 2 (two_by_two (+ 4) (+ 2) (+ 2) (+ 5)) ≡ answered (two_by_two (+ 2) (+ 0) (+ 1) (+ 2))
-  pub no_factor : cholesky fractions 2 (two_by_two (+ 1) (+ 1) (+ 1) (+ 1)) ≡ refused 4
+  pub factor : cholesky fractions 2 (two_by_two (+ 4) (+ 2) (+ 2) (+ 5)) ≡ Ok (two_by_two (+ 2) (+ 0) (+ 1) (+ 2))
+  pub no_factor : cholesky fractions 2 (two_by_two (+ 1) (+ 1) (+ 1) (+ 1)) ≡ Err NotPositiveDefinite
   -- 5 is measured where the state is 1, both variances 2: the state becomes 3 and its variance 1
   pub linear-update : Linear.update fractions 1 1 (one_by_one (+ 1)) (one_by_one (+ 2)) (+ 5 ∷ []) (estimate (+ 1) (+ 2))
       ≡ done (+ 4 ∷ []) (estimate (+ 3) (+ 1))

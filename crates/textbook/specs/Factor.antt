@@ -1,6 +1,7 @@
 -- Cholesky's factor, row by row, in any arithmetic: the algebra crate's is this one at `rounded`. Golub and Van Loan, 4.2. Definitions only.
-use Rattle.std.specs.Prelude.{ℕ, zero, suc, [], ◌∷◌, ◌++◌}
-use Rattle.answer.specs.Answer.{Answer, answered, and_then, mapped, refused_if}
+use Rattle.std.specs.Prelude.{ℕ, zero, suc, [], ◌∷◌, ◌++◌, Ok}
+use Rattle.answer.specs.declared.Refusal.TheVariants.{NotPositiveDefinite}
+use Rattle.answer.specs.Answer.{Answer, and_then, mapped, refused_if}
 use Rattle.answer.specs.Table.{pad_to}
 use Rattle.textbook.specs.Arithmetic.{Arithmetic}
 use Rattle.textbook.specs.Matrices.{Vec, Mat, at, row, cell, dot}
@@ -8,7 +9,7 @@ use Rattle.textbook.specs.Matrices.{Vec, Mat, at, row, cell, dot}
 module _ (N : Arithmetic) where
   -- the root of what is left of A's diagonal
   unfoldable pub diagonal_of : N.Num → Answer N.Num
-  diagonal_of d = refused_if (N.no_diagonal d) 4 (N.root d)
+  diagonal_of d = refused_if (N.no_diagonal d) NotPositiveDefinite (N.root d)
 
   -- L i j = (A i j - sum over k < j of L i k × L j k) / L j j
   unfoldable pub left_cells : Vec N → Mat N → ℕ → Vec N
@@ -25,7 +26,7 @@ module _ (N : Arithmetic) where
 
   -- the first i rows
   unfoldable pub factor_rows : ℕ → Mat N → ℕ → Answer (Mat N)
-  factor_rows n A zero = answered []
+  factor_rows n A zero = Ok []
   factor_rows n A (suc i) = and_then (factor_rows n A i) (λ L. mapped (λ v. L ++ v ∷ []) (factor_row n (row N A i) L i))
 
   unfoldable pub cholesky : ℕ → Mat N → Answer (Mat N)

@@ -1,7 +1,7 @@
 -- What the definitions that the contracts cite are, by the textbook: docs/TEXTBOOK.md says where each stands there. Definitions only.
 -- `textbook` in src/lib.rt promises the record `Textbook`.
-use Rattle.std.specs.Prelude.{◌≡◌, ℕ, ◌<◌}
-use Rattle.answer.specs.Answer.{answered, mapped}
+use Rattle.std.specs.Prelude.{◌≡◌, ℕ, ◌<◌, Ok}
+use Rattle.answer.specs.Answer.{mapped}
 use Rattle.answer.specs.Outcome.{Left, unchanged, this, Outcome, final, done}
 use Rattle.algebra.specs.Matrix.{Vector, Matrix}
 use Rattle.algebra.specs.Inverse as AlgebraInverse
@@ -60,26 +60,26 @@ pub record AtRounded : Type 0 where
 -- In an exact arithmetic they are what the textbook says, for every size
 pub record InExact (N : Arithmetic) : Type 0 where
   -- A B = I = B A
-  pub inverse : (n : ℕ) (A B : Mat N) → inv N n A ≡ answered B → Inverse N n A B
+  pub inverse : (n : ℕ) (A B : Mat N) → inv N n A ≡ Ok B → Inverse N n A B
   -- L Lᵀ = A
-  pub cholesky-factor : (n : ℕ) (A L : Mat N) → cholesky N n A ≡ answered L → Factor N n A L
+  pub cholesky-factor : (n : ℕ) (A L : Mat N) → cholesky N n A ≡ Ok L → Factor N n A L
   -- the textbook's form of the downdate: the L' that it leaves has L' L'ᵀ = L Lᵀ - v vᵀ
   pub downdate : (n : ℕ) (L : Mat N) (v v' : Vec N) → Lower N n L → NonzeroDiagonal N n L
-      → (rotated N (textbook N) n n L v).told ≡ answered v' → Downdated N n L v (final L (rotated N (textbook N) n n L v).left)
+      → (rotated N (textbook N) n n L v).told ≡ Ok v' → Downdated N n L v (final L (rotated N (textbook N) n n L v).left)
   -- the information filter starts as the information of its estimate
   pub information-start : (n : ℕ) (e : Linear.Estimate N) (o : Information.Information N)
-      → Information.of_estimate N n e ≡ answered o → Informs N n e o
+      → Information.of_estimate N n e ≡ Ok o → Informs N n e o
   -- each of its steps leaves the information of the estimate that the linear filter's leaves
   pub information-predict : (n i : ℕ) (A B Q : Mat N) (u : Vec N) (e : Linear.Estimate N) (o o' : Information.Information N)
       → Informs N n e o → Information.predict N n i A B Q u o ≡ done tt o' → Informs N n (Linear.predicted N n i A B Q u e) o'
   pub information-update : (n m : ℕ) (H R W : Mat N) (z y : Vec N) (e e' : Linear.Estimate N) (o : Information.Information N)
-      → Informs N n e o → Linear.update N n m H R z e ≡ done y e' → inv N m R ≡ answered W
+      → Informs N n e o → Linear.update N n m H R z e ≡ done y e' → inv N m R ≡ Ok W
       → Informs N n e' (final o (Information.update N n m H R z o).left)
   -- and the state and the covariance that it answers are that estimate's
   pub information-state : (n : ℕ) (e : Linear.Estimate N) (o : Information.Information N) (x : Vec N)
-      → Informs N n e o → Information.state N n o ≡ answered x → (i : ℕ) → i < n → at N x i ≡ at N e.state i
+      → Informs N n e o → Information.state N n o ≡ Ok x → (i : ℕ) → i < n → at N x i ≡ at N e.state i
   pub information-covariance : (n : ℕ) (e : Linear.Estimate N) (o : Information.Information N) (P : Mat N)
-      → Informs N n e o → Information.covariance N n o ≡ answered P → (i j : ℕ) → i < n → j < n → cell N P i j ≡ cell N e.covariance i j
+      → Informs N n e o → Information.covariance N n o ≡ Ok P → (i j : ℕ) → i < n → j < n → cell N P i j ≡ cell N e.covariance i j
 
 pub record Textbook : Type 1 where
   pub at_rounded : AtRounded

@@ -7,7 +7,10 @@ use mathlib.Core.Option.{Option, none, some, get_or}
 use mathlib.Core.Logic.{◌⊎◌, inl, inr}
 use mathlib.Core.List.{List, [], ◌∷◌, zip_with}
 use lib.ListN.{length, drop}
-use Rattle.answer.specs.Answer.{Answer, refused, answered}
+use Rattle.std.specs.Prelude.{Ok, Err}
+use Rattle.answer.specs.declared.Refusal.{Refusal}
+use Rattle.answer.specs.declared.Refusal.TheVariants.{InsufficientData, SingularMatrix}
+use Rattle.answer.specs.Answer.{Answer}
 use Rattle.algebra.specs.Matrix.{Matrix}
 use Rattle.algebra.specs.Inverse.{inv}
 use Rattle.algebra.proofs.Inverses.{inv-refused}
@@ -25,13 +28,13 @@ module _ (n : ℕ) (s : Slot) where
   unfolding rejects
   rejects-true e = go (inv n s.predicted.covariance) refl e
     where
-      go : (a : Answer Matrix) → inv n s.predicted.covariance ≡ a → elim a [ refused k ↦ true | answered W ↦ false ] ≡ true → a ≡ refused 3
-      go (refused k) p q = ap refused (inv-refused n s.predicted.covariance k p)
-      go (answered W) p q = cc
+      go : (a : Answer Matrix) → inv n s.predicted.covariance ≡ a → elim a [ Err k ↦ true | Ok W ↦ false ] ≡ true → a ≡ Err SingularMatrix
+      go (Err k) p q = ap Err (inv-refused n s.predicted.covariance k p)
+      go (Ok W) p q = cc
 
   pub rejected-true : Rejected n s → rejects n s ≡ true
   unfolding rejects
-  rejected-true h = ap (λ (a : Answer Matrix). elim a [ refused k ↦ true | answered W ↦ false ]) h
+  rejected-true h = ap (λ (a : Answer Matrix). elim a [ Err k ↦ true | Ok W ↦ false ]) h
 
 -- what `latest` says of the slots l
 data Search (n : ℕ) (l : List Slot) : Option ℕ → Type 0 where
@@ -103,45 +106,45 @@ module _ (n : ℕ) where
 module _ {R : Type 0} (f : Slot → Estimate → R) (d : Duty) where
   -- refused with 3, at the latest slot rejected; no slot; or a result for each
   pub data Settled : Tracked (List R) → Type 0 where
-    stopped : {k : ℕ} → smooth d ≡ refused 3 → Latest d.size d.slots k → Settled (rejected k)
+    stopped : {k : ℕ} → smooth d ≡ Err SingularMatrix → Latest d.size d.slots k → Settled (rejected k)
     empty : d.slots ≡ [] → Settled (tracked [])
-    paired : {r : List Estimate} → smooth d ≡ answered r → length r ≡ length d.slots → Settled (tracked (zip_with f d.slots r))
+    paired : {r : List Estimate} → smooth d ≡ Ok r → length r ≡ length d.slots → Settled (tracked (zip_with f d.slots r))
 
-  unsmoothed : (k : ℕ) → smooth d ≡ refused k → (o : Option ℕ) → Search d.size d.slots o → Settled (refused_at o)
-  unsmoothed k e (some j) (found c) = stopped ((demand3.refusals d 3).1 (inr (latest-rejected d.size d.slots j c, refl))) c
+  unsmoothed : (k : Refusal) → smooth d ≡ Err k → (o : Option ℕ) → Search d.size d.slots o → Settled (refused_at o)
+  unsmoothed k e (some j) (found c) = stopped ((demand3.refusals d SingularMatrix).1 (inr (latest-rejected d.size d.slots j c, refl))) c
   unsmoothed k e none (nothing h) = go ((demand3.refusals d k).0 e)
     where
-      go : ((d.slots ≡ []) × (k ≡ 2)) ⊎ (BeforeLast (Rejected d.size) d.slots × (k ≡ 3)) → Settled (tracked [])
+      go : ((d.slots ≡ []) × (k ≡ InsufficientData)) ⊎ (BeforeLast (Rejected d.size) d.slots × (k ≡ SingularMatrix)) → Settled (tracked [])
       go (inl p) = empty p.0
       go (inr p) = absurd (h p.0)
 
   abbrev told : Answer (List Estimate) → Tracked (List R)
-  told a = elim a [ refused k ↦ refused_at (latest d.size d.slots) | answered r ↦ tracked (zip_with f d.slots r) ]
+  told a = elim a [ Err k ↦ refused_at (latest d.size d.slots) | Ok r ↦ tracked (zip_with f d.slots r) ]
 
   pub settled : Settled (smoothed_by f d)
   unfolding smoothed_by
   settled = go (smooth d) refl
     where
       go : (a : Answer (List Estimate)) → smooth d ≡ a → Settled (told a)
-      go (refused k) e = unsmoothed k e (latest d.size d.slots) (search d.size d.slots)
-      go (answered r) e = paired e (demand3.count d r e)
+      go (Err k) e = unsmoothed k e (latest d.size d.slots) (search d.size d.slots)
+      go (Ok r) e = paired e (demand3.count d r e)
 
-  pub smoothed-refused : {j : ℕ} → smooth d ≡ refused j → smoothed_by f d ≡ refused_at (latest d.size d.slots)
+  pub smoothed-refused : {j : Refusal} → smooth d ≡ Err j → smoothed_by f d ≡ refused_at (latest d.size d.slots)
   unfolding smoothed_by
   smoothed-refused e = ap told e
 
-  pub smoothed-answered : {r : List Estimate} → smooth d ≡ answered r → smoothed_by f d ≡ tracked (zip_with f d.slots r)
+  pub smoothed-answered : {r : List Estimate} → smooth d ≡ Ok r → smoothed_by f d ≡ tracked (zip_with f d.slots r)
   unfolding smoothed_by
   smoothed-answered e = ap told e
 
   -- the same as a number, where there is a slot
-  pub smoothed-rejected : (k : ℕ) → smooth d ≡ refused k → 0 < length d.slots → smoothed_by f d ≡ rejected (get_or (latest d.size d.slots) 0)
+  pub smoothed-rejected : (k : Refusal) → smooth d ≡ Err k → 0 < length d.slots → smoothed_by f d ≡ rejected (get_or (latest d.size d.slots) 0)
   smoothed-rejected k e h = smoothed-refused e ∙ go (latest d.size d.slots) (search d.size d.slots)
     where
       go : (o : Option ℕ) → Search d.size d.slots o → refused_at {R = R} o ≡ rejected (get_or o 0)
       go (some j) x = refl
       go none (nothing free) = absurd (none_left ((demand3.refusals d k).0 e))
         where
-          none_left : ((d.slots ≡ []) × (k ≡ 2)) ⊎ (BeforeLast (Rejected d.size) d.slots × (k ≡ 3)) → ⊥
+          none_left : ((d.slots ≡ []) × (k ≡ InsufficientData)) ⊎ (BeforeLast (Rejected d.size) d.slots × (k ≡ SingularMatrix)) → ⊥
           none_left (inl p) = omega (arith, ap length p.0, h)
           none_left (inr p) = free p.0

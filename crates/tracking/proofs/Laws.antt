@@ -6,7 +6,9 @@ use mathlib.Core.Option.{Option}
 use mathlib.Core.List.{List, [], ◌∷◌, map, zip_with}
 use lib.ListN.{length, length-map}
 use lib.Ieee.{Float}
-use Rattle.answer.specs.Answer.{Answer, refused, answered}
+use Rattle.std.specs.Prelude.{Ok, Err}
+use Rattle.answer.specs.declared.Refusal.TheVariants.{SingularMatrix}
+use Rattle.answer.specs.Answer.{Answer}
 use Rattle.algebra.specs.Matrix.{Vector, Matrix}
 use Rattle.filtering.specs.Filter.{Motion, Sensor, Estimate}
 use Rattle.filtering.specs.Linear.{tracker_motion, tracker_sensor, at_start}
@@ -39,8 +41,8 @@ module _ (M : Motion) (Y : Sensor Matrix) where
     where
       go : (a : Answer Estimate) → ((f : Estimate) → Places (suc k) (length l) (slots_from M Y (suc k) f l))
           → Places k (suc (length l)) (and_then (at_reading k a) λ f. and_then (slots_from M Y (suc k) f l) λ s. tracked (slot_of M f ∷ s))
-      go (refused j) h = (omega arith, omega arith)
-      go (answered f) h = further k (length l) f (slots_from M Y (suc k) f l) (h f)
+      go (Err j) h = (omega arith, omega arith)
+      go (Ok f) h = further k (length l) f (slots_from M Y (suc k) f l) (h f)
 
 -- ---- then the smoother
 module _ (s : Settings) (l : List (Option Float)) where
@@ -70,19 +72,19 @@ module _ (s : Settings) (l : List (Option Float)) where
     unfolding track
     track_is = ap (λ (o : Tracked (List Slot)). and_then o smoothing) e
 
-    refused_to : (k : ℕ) → track s l ≡ rejected k → (smooth (duty_of (motion s) d) ≡ refused 3) × Latest 2 d k
+    refused_to : (k : ℕ) → track s l ≡ rejected k → (smooth (duty_of (motion s) d) ≡ Err SingularMatrix) × Latest 2 d k
     unfolding tracker_motion
     refused_to k h = go (smoothing d) (settled positions (duty_of (motion s) d)) (sym track_is ∙ h)
       where
-        go : (o : Tracked (List Smoothed)) → Settled positions (duty_of (motion s) d) o → o ≡ rejected k → (smooth (duty_of (motion s) d) ≡ refused 3) × Latest 2 d k
+        go : (o : Tracked (List Smoothed)) → Settled positions (duty_of (motion s) d) o → o ≡ rejected k → (smooth (duty_of (motion s) d) ≡ Err SingularMatrix) × Latest 2 d k
         go (rejected j) (stopped r c) q = (r, subst (Latest 2 d) (cc) c)
         go (tracked x) y q = absurd (let z : ◌≡◌ {A = ℕ} 0 1 = cc in omega arith)
 
-    refused_from : (k : ℕ) → (smooth (duty_of (motion s) d) ≡ refused 3) × Latest 2 d k → track s l ≡ rejected k
+    refused_from : (k : ℕ) → (smooth (duty_of (motion s) d) ≡ Err SingularMatrix) × Latest 2 d k → track s l ≡ rejected k
     unfolding tracker_motion
     refused_from k p = track_is ∙ smoothed-refused positions (duty_of (motion s) d) p.0 ∙ ap refused_at (latest_at 2 d k p.1)
 
-    answers : (r : List Estimate) → smooth (duty_of (motion s) d) ≡ answered r → track s l ≡ tracked (zip_with positions d r)
+    answers : (r : List Estimate) → smooth (duty_of (motion s) d) ≡ Ok r → track s l ≡ tracked (zip_with positions d r)
     answers r h = track_is ∙ smoothed-answered positions (duty_of (motion s) d) h
 
 pub tracks : Tracks

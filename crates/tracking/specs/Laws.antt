@@ -1,8 +1,8 @@
 -- What holds of tracking, for all settings and readings: the laws that `track_laws` promises. Definitions only.
-use Rattle.std.specs.Prelude.{ℕ, ◌<◌, ◌≡◌, ◌↔◌, length, drop, Float}
+use Rattle.std.specs.Prelude.{ℕ, ◌<◌, ◌≡◌, ◌↔◌, length, drop, Float, Ok, Err}
 use Rattle.std.proofs.Math.Option.{Option}
 use mathlib.Core.List.{List, ◌∷◌, zip_with}
-use Rattle.answer.specs.Answer.{refused, answered}
+use Rattle.answer.specs.declared.Refusal.TheVariants.{SingularMatrix}
 use Rattle.filtering.specs.Filter.{Estimate}
 use Rattle.smoothing.specs.Smoother.{Slot, smooth}
 use Rattle.smoothing.specs.Backward.{BeforeLast}
@@ -27,7 +27,7 @@ pub record Tracks : Type 0 where
   pub filtered : (s : Settings) (l : List (Option Float)) (k : ℕ) → slots s l ≡ rejected k → track s l ≡ rejected k
   -- then the smoother: rejected at slot k just where smoothing is refused with 3 and k is the latest slot rejected
   pub smoothed : (s : Settings) (l : List (Option Float)) (stored : List Slot) → slots s l ≡ tracked stored → (k : ℕ) →
-      (track s l ≡ rejected k) ↔ ((smooth (duty_of (motion s) stored) ≡ refused 3) × Latest 2 stored k)
+      (track s l ≡ rejected k) ↔ ((smooth (duty_of (motion s) stored) ≡ Err SingularMatrix) × Latest 2 stored k)
   -- and what is smoothed is told, a result for each slot
   pub answers : (s : Settings) (l : List (Option Float)) (stored : List Slot) → slots s l ≡ tracked stored → (r : List Estimate) →
-      smooth (duty_of (motion s) stored) ≡ answered r → track s l ≡ tracked (zip_with positions stored r)
+      smooth (duty_of (motion s) stored) ≡ Ok r → track s l ≡ tracked (zip_with positions stored r)

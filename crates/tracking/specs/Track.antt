@@ -1,10 +1,10 @@
 -- A bus's readings filtered and smoothed: the middle of the depot sheet. Definitions only.
 -- The rules are for any motion M and sensor Y, of any sizes; `track` is the tracker of position and speed.
-use Rattle.std.specs.Prelude.{ℕ, suc, Bool, true, false, cond, replicate, Float}
+use Rattle.std.specs.Prelude.{ℕ, suc, Bool, true, false, cond, replicate, Float, Ok, Err}
 use Rattle.std.proofs.Math.Option.{Option, none, some}
 use mathlib.Core.List.{List, [], ◌∷◌, map, zip_with}
 use Rattle.scalar.specs.Number.{+0}
-use Rattle.answer.specs.Answer.{Answer, refused, answered, mapped}
+use Rattle.answer.specs.Answer.{Answer, mapped}
 use Rattle.answer.specs.Outcome.{final}
 use Rattle.algebra.specs.Matrix.{Vector, Matrix, at}
 use Rattle.algebra.specs.Inverse.{inv}
@@ -37,8 +37,8 @@ and_then (tracked a) f = f a
 
 -- an answer at reading k: a refusal is a rejection there
 abbrev pub at_reading : {A : Type 0} → ℕ → Answer A → Tracked A
-at_reading k (refused j) = rejected k
-at_reading k (answered a) = tracked a
+at_reading k (Err j) = rejected k
+at_reading k (Ok a) = tracked a
 
 -- ---- a reading, with the motion M and the sensor Y
 
@@ -48,7 +48,7 @@ moved M e = final e (predict M (replicate M.i +0) e).left
 
 -- an update if there is a reading
 unfoldable pub corrected : Sensor Matrix → Option Vector → Estimate → Answer Estimate
-corrected Y none e = answered e
+corrected Y none e = Ok e
 corrected Y (some z) e = let o = update Y z e in mapped (λ y. final e o.left) o.told
 
 -- a reading is one predict, then an update if there is a reading
@@ -68,7 +68,7 @@ slots_from M Y k e (z ∷ l) = and_then (at_reading k (filter M Y z e)) λ f. an
 
 -- inversion rejects the predicted covariance of slot s, of state size n
 unfoldable pub rejects : ℕ → Slot → Bool
-rejects n s = elim (inv n s.predicted.covariance) [ refused k ↦ true | answered W ↦ false ]
+rejects n s = elim (inv n s.predicted.covariance) [ Err k ↦ true | Ok W ↦ false ]
 
 -- the place found among later slots, counted from the slot before them; else that slot's own, if it is rejected
 abbrev pub or_here : Bool → Option ℕ → Option ℕ
@@ -90,7 +90,7 @@ refused_at none = tracked []
 
 -- the slots of the duty d, smoothed: f of each slot and its smoothed pair
 unfoldable pub smoothed_by : {R : Type 0} → (Slot → Estimate → R) → Duty → Tracked (List R)
-smoothed_by f d = elim (smooth d) [ refused k ↦ refused_at (latest d.size d.slots) | answered r ↦ tracked (zip_with f d.slots r) ]
+smoothed_by f d = elim (smooth d) [ Err k ↦ refused_at (latest d.size d.slots) | Ok r ↦ tracked (zip_with f d.slots r) ]
 
 abbrev pub duty_of : Motion → List Slot → Duty
 duty_of M l = record { size = M.n; transition = M.a; slots = l }
