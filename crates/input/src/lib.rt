@@ -7,7 +7,8 @@ ghost use Rattle.std.specs.Io.KnownBytes.{Consumes, IsAtEnd};
 use std::io;
 use std::io::Read;
 
-// Reads until `buf` is full or the reader ends; how many bytes then stand at the start of `buf`.
+// Reads until `buf` is full or the reader ends; how many bytes then stand at the start of `buf`. Where the reader ends before,
+// `read_exact` refuses and does not tell how many it read.
 pub fn read_full<R: Read>(reader: &mut R, buf: &mut [u8]) -> io::Result<usize>
     ensures bound { IfOk result (λ n. n ≤ length buf.new) }
     ensures bytes { IfOk result (λ n. Consumes (R.remaining reader.old) (R.remaining reader.new) (take n buf.new)) }

@@ -99,10 +99,10 @@ itself (inf s) h = tt
 itself (fin s m e) h = tt
 
 -- its bits without the sign are at most those of an infinity
-pub up_to : (x : Float) → T (fits binary64 x) → ne x x ≡ false → to_bits binary64 x % sign_bit ≤ infinity
+pub up_to : (x : Float) → T (fits binary64 x) → is_nan x ≡ false → to_bits binary64 x % sign_bit ≤ infinity
 up_to x h n =
     ltb-false infinity (to_bits binary64 x % sign_bit)
-    (sym (nan_bits_above binary64 (to_bits binary64 x)) ∙ nan_bits_is binary64 (to_bits binary64 x) ∙ ap is_nan (of_bits-to_bits binary64 x h) ∙ is_false (is_nan x) (itself x n))
+    (sym (nan_bits_above binary64 (to_bits binary64 x)) ∙ nan_bits_is binary64 (to_bits binary64 x) ∙ ap is_nan (of_bits-to_bits binary64 x h) ∙ n)
 
 -- and bits that are not above these are no NaN's
 pub plain-bits : (b : ℕ) → b % sign_bit ≤ infinity → T (not (nan_bits binary64 b))

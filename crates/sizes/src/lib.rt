@@ -1,13 +1,15 @@
-// Sizes, 1 to 4: the type of them, and the tests of what a call is given for sizes, each one bool.
+// Sizes, 1 to 4: the type of them, and what the sizes that a call is given come to: the sizes by their type, or a refusal.
 #![tactic(auto)]
 
 ghost use Rattle.std.specs.Prelude.{◌≡◌, ◌&&◌};
+ghost use Rattle.answer.specs.Answer.{where_sized};
 ghost use Rattle.sizes.specs.Size.{count, size_of, sized, shaped, alike, chained, inside, paired, applicable};
 
+use answer::Refusal;
 use scalar::ControlScalar;
 
 // How many rows, columns or numbers of an array of four are used.
-#[derive(Clone, Copy)]
+#[derive(Clone, Copy, Debug, PartialEq, Eq)]
 pub enum Size {
     One,
     Two,
@@ -15,14 +17,30 @@ pub enum Size {
     Four,
 }
 
-pub fn number(n: Size) -> usize
-    ensures { result ≡ count n }
-{
-    match n {
-        Size::One => 1,
-        Size::Two => 2,
-        Size::Three => 3,
-        Size::Four => 4,
+impl From<Size> for usize {
+    ghost from_gives = { λ s n. n ≡ count s };
+
+    fn from(size: Size) -> usize {
+        match size {
+            Size::One => 1,
+            Size::Two => 2,
+            Size::Three => 3,
+            Size::Four => 4,
+        }
+    }
+}
+
+impl TryFrom<usize> for Size {
+    type Error = Refusal;
+
+    ghost try_from_gives = { λ n r. r ≡ where_sized (sized n) (size_of n) };
+
+    fn try_from(n: usize) -> Result<Size, Refusal> {
+        if is_size(n) {
+            Ok(size_of(n))
+        } else {
+            Err(Refusal::WrongSize)
+        }
     }
 }
 
@@ -42,7 +60,7 @@ pub fn size_of(n: usize) -> Size
     Size::Four
 }
 
-// ---- the tests
+// ---- tests, each one bool
 
 pub fn both(x: bool, y: bool) -> bool
     ensures { result ≡ x && y }
@@ -63,37 +81,75 @@ pub fn is_shape(r: usize, c: usize) -> bool
     both(is_size(r), is_size(c))
 }
 
+// ---- the sizes that a call is given, by their type
+
+// r rows and c columns.
+pub fn shape(r: usize, c: usize) -> Result<(Size, Size), Refusal>
+    ensures { result ≡ where_sized (shaped r c) (size_of r, size_of c) }
+{
+    if is_shape(r, c) {
+        Ok((size_of(r), size_of(c)))
+    } else {
+        Err(Refusal::WrongSize)
+    }
+}
+
 // The sizes of a product: the first matrix has as many columns as the second has rows.
-pub fn is_chained(ar: usize, ac: usize, br: usize, bc: usize) -> bool
-    ensures { result ≡ chained ar ac br bc }
+#[tactic(auto, unfolding(crate::specs::Size::chained))]
+pub fn chain(ar: usize, ac: usize, br: usize, bc: usize) -> Result<(Size, Size, Size), Refusal>
+    ensures { result ≡ where_sized (chained ar ac br bc) (size_of ar, size_of ac, size_of bc) }
 {
-    both(is_shape(ar, ac), both(is_shape(br, bc), ac == br))
+    if both(is_shape(ar, ac), both(is_shape(br, bc), ac == br)) {
+        Ok((size_of(ar), size_of(ac), size_of(bc)))
+    } else {
+        Err(Refusal::WrongSize)
+    }
 }
 
-// Both matrices have the same sizes.
-pub fn is_alike(ar: usize, ac: usize, br: usize, bc: usize) -> bool
-    ensures { result ≡ alike ar ac br bc }
+// The sizes of two matrices that have the same.
+#[tactic(auto, unfolding(crate::specs::Size::alike))]
+pub fn alike(ar: usize, ac: usize, br: usize, bc: usize) -> Result<(Size, Size), Refusal>
+    ensures { result ≡ where_sized (alike ar ac br bc) (size_of ar, size_of ac) }
 {
-    both(is_shape(ar, ac), both(ar == br, ac == bc))
+    if both(is_shape(ar, ac), both(ar == br, ac == bc)) {
+        Ok((size_of(ar), size_of(ac)))
+    } else {
+        Err(Refusal::WrongSize)
+    }
 }
 
-// Row i and column j lie in the used part.
-pub fn is_inside(r: usize, c: usize, i: usize, j: usize) -> bool
-    ensures { result ≡ inside r c i j }
+// The sizes of a matrix that has a row i and a column j.
+#[tactic(auto, unfolding(crate::specs::Size::inside))]
+pub fn inside(r: usize, c: usize, i: usize, j: usize) -> Result<(Size, Size), Refusal>
+    ensures { result ≡ where_sized (inside r c i j) (size_of r, size_of c) }
 {
-    both(is_shape(r, c), both(i < r, j < c))
+    if both(is_shape(r, c), both(i < r, j < c)) {
+        Ok((size_of(r), size_of(c)))
+    } else {
+        Err(Refusal::WrongSize)
+    }
 }
 
-// Two vectors of one size.
-pub fn is_paired(n: usize, m: usize) -> bool
-    ensures { result ≡ paired n m }
+// The one size of two vectors.
+#[tactic(auto, unfolding(crate::specs::Size::paired))]
+pub fn pair(n: usize, m: usize) -> Result<Size, Refusal>
+    ensures { result ≡ where_sized (paired n m) (size_of n) }
 {
-    both(is_size(n), n == m)
+    if both(is_size(n), n == m) {
+        Ok(size_of(n))
+    } else {
+        Err(Refusal::WrongSize)
+    }
 }
 
-// A matrix, and a vector with as many components as it has columns.
-pub fn is_applicable(r: usize, c: usize, n: usize) -> bool
-    ensures { result ≡ applicable r c n }
+// The sizes of a matrix that has as many columns as a vector of n numbers has components.
+#[tactic(auto, unfolding(crate::specs::Size::applicable))]
+pub fn applied(r: usize, c: usize, n: usize) -> Result<(Size, Size), Refusal>
+    ensures { result ≡ where_sized (applicable r c n) (size_of r, size_of c) }
 {
-    both(is_shape(r, c), c == n)
+    if both(is_shape(r, c), c == n) {
+        Ok((size_of(r), size_of(c)))
+    } else {
+        Err(Refusal::WrongSize)
+    }
 }

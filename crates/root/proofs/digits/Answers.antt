@@ -1,6 +1,6 @@
 -- `root::digits` meets its contract.
 use mathlib.Core.Path.{◌≡◌, sym, ap, ◌∙◌}
-use Prim.Native.Nat.{ℕ, ◌+◌, ◌-◌, ◌*◌, ◌^◌, ◌≤◌, ◌<◌}
+use Prim.Native.Nat.{ℕ, ◌+◌, ◌*◌, ◌^◌, ◌≤◌, ◌<◌}
 use native.Mathlib.Nat.{pow-suc, pow-succ', mul_left_comm, lt_of_lt_of_le, le_of_suc-le-suc, le_antisymm}
 use native.Mathlib.Numerals.{add-one}
 use native.Mathlib.Omega.{arith}
@@ -31,23 +31,23 @@ bounded m h = omega arith
 
 pub digit-p-requires : goal.digit-p-requires
 digit-p-requires c =
-    let v = c.loop-i.invariant in
-    record { small = within c.loop-i.p.root c.loop-i.i v.1 c.loop-i-test.true; rest_le = v.2; left_lt = v.3 }
+    let v = c.loop.invariant in
+    record { small = within c.loop.p.root c.loop.counter v.1 c.loop-test.true; rest_le = v.2; left_lt = v.3 }
 
-pub loop-i-preserved : goal.loop-i-preserved
-loop-i-preserved c =
-    let v = c.loop-i.invariant in
+pub loop-preserved : goal.loop-preserved
+loop-preserved c =
+    let v = c.loop.invariant in
     let s = c.digit-p.ensures in
-    let p = c.loop-i.p in
+    let p = c.loop.p in
     let r = c.digit-p.result in
-    let i = c.loop-i.i in
+    let i = c.loop.counter in
     (search rules, doubled p.root r.root i v.1 s.root_le, s.rest_le, s.left_lt, times-four c.args.m i (radicand r) (radicand p) s.grown v.4)
 
 pub returns : goal.returns
 returns c =
-    let v = c.loop-i.invariant in
-    let p = c.loop-i.p in
+    let v = c.loop.invariant in
+    let p = c.loop.p in
     let m = c.args.m in
     isqrt_of 54 (m * past54) p.root p.rest (bounded m c.requires)
-    (all-used m (p.root * p.root + p.rest) p.left v.3 (at_end m c.loop-i.i (radicand p) v.0 c.loop-i-test.false v.4))
+    (all-used m (p.root * p.root + p.rest) p.left v.3 (at_end m c.loop.counter (radicand p) v.0 c.loop-test.false v.4))
     v.2

@@ -47,23 +47,5 @@ returns c =
 pub overflow_sub-shift : goal.overflow_sub-shift
 overflow_sub-shift c = let s = at c in omega arith
 
-pub overflow_cast-m : goal.overflow_cast-m
-overflow_cast-m c = let s = at c in omega arith
-
-pub overflow_shl-m : goal.overflow_shl-m
-overflow_shl-m c = let s = at c in omega arith
-
-pub overflow_cast-e : goal.overflow_cast-e
-overflow_cast-e c = let s = at c in omega arith
-
-pub overflow_sub-e : goal.overflow_sub-e
-overflow_sub-e c = let s = at c in omega arith
-
-pub overflow_sub-c : goal.overflow_sub-c
-overflow_sub-c c = let s = at c in omega arith
-
-pub overflow_mul-c : goal.overflow_mul-c
-overflow_mul-c c = let s = at c in let k = kept c in omega arith
-
 pub overflow_add-c : goal.overflow_add-c
 overflow_add-c c = let s = at c in let k = kept c in omega arith
