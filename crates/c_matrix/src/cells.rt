@@ -4,11 +4,12 @@ ghost use Rattle.std.specs.Prelude.{◌≡◌, length};
 ghost use Rattle.answer.specs.Told.{given};
 ghost use Rattle.c_slices.specs.Calls.{zeros_in, filled_in, identity_in, get_in, set_in};
 
-use c_slices::{are_two_matrices, give_matrix, give_scalar, is_matrix, rows_in};
+use c_slices::{give, give_matrix, is_matrix, rows_in};
 use elementwise::Matrix;
 
 // ---- constructors
 
+#[tactic(auto, unfolding(algebra::specs::Matrix::zeros))]
 pub fn matrix_zeros(r: usize, c: usize, out: &mut [f64]) -> u8
     ensures { (result, out.new) ≡ given out.old (zeros_in r c (length out.old)) }
 {
@@ -47,9 +48,9 @@ pub fn matrix_identity(n: usize, out: &mut [f64]) -> u8
 pub fn matrix_get(r: usize, c: usize, i: usize, j: usize, a: &[f64], out: &mut f64) -> u8
     ensures { (result, out.new) ≡ given out.old (get_in r c i j a.now) }
 {
-    if sizes::both(is_matrix(r, c, a.len()), sizes::is_inside(r, c, i, j)) {
+    if is_matrix(r, c, a.len()) {
         let x = rows_in(a, r, c);
-        give_scalar(out, elementwise::get(x, r, c, i, j))
+        give(out, elementwise::get(x, r, c, i, j))
     } else {
         1
     }
@@ -67,10 +68,8 @@ pub fn matrix_set(
 ) -> u8
     ensures { (result, out.new) ≡ given out.old (set_in r c i j a.now val (length out.old)) }
 {
-    if sizes::both(
-        are_two_matrices(r, c, a.len(), r, c, out.len()),
-        sizes::is_inside(r, c, i, j),
-    ) {
+    let whole = is_matrix(r, c, a.len()) & is_matrix(r, c, out.len());
+    if whole {
         let x = rows_in(a, r, c);
         give_matrix(out, elementwise::set(x, r, c, i, j, val), r, c)
     } else {

@@ -8,6 +8,7 @@ use Rattle.algebra.specs.Matrix.{matvec, outer, vec_add, vec_sub, vec_scale, dot
 use Rattle.algebra.specs.Inverse.{inv}
 use Rattle.algebra.specs.Cholesky.{cholesky}
 use Rattle.sizes.specs.Size.{inside}
+use Rattle.rows.specs.Row.{pairwise, cellwise}
 use Rattle.layout.specs.Layout.{joined}
 use Rattle.c_slices.specs.Slices.{is_matrix, is_vector, rows}
 
@@ -61,6 +62,10 @@ add_in r c a b k = where_sized (is_matrix r c (length a) && (is_matrix r c (leng
 abbrev pub sub_in : ℕ → ℕ → Slice → Slice → ℕ → Answer Slice
 sub_in r c a b k = where_sized (is_matrix r c (length a) && (is_matrix r c (length b) && is_matrix r c k)) (joined (sub r c (rows r c a) (rows r c b)))
 
+-- of which these are the sum and the difference
+abbrev pub cellwise_in : (Float → Float → Float) → ℕ → ℕ → Slice → Slice → ℕ → Answer Slice
+cellwise_in f r c a b k = where_sized (is_matrix r c (length a) && (is_matrix r c (length b) && is_matrix r c k)) (joined (cellwise f r c (rows r c a) (rows r c b)))
+
 abbrev pub eq_in : ℕ → ℕ → Slice → Slice → Answer Bool
 eq_in r c a b = where_sized (is_matrix r c (length a) && is_matrix r c (length b)) (equal r c (rows r c a) (rows r c b))
 
@@ -82,6 +87,9 @@ vec_add_in n v w k = where_sized (is_vector n (length v) && (is_vector n (length
 
 abbrev pub vec_sub_in : ℕ → Slice → Slice → ℕ → Answer Slice
 vec_sub_in n v w k = where_sized (is_vector n (length v) && (is_vector n (length w) && is_vector n k)) (vec_sub n v w)
+
+abbrev pub pairwise_in : (Float → Float → Float) → ℕ → Slice → Slice → ℕ → Answer Slice
+pairwise_in f n v w k = where_sized (is_vector n (length v) && (is_vector n (length w) && is_vector n k)) (pairwise f n v w)
 
 abbrev pub vec_scale_in : ℕ → Slice → Float → ℕ → Answer Slice
 vec_scale_in n v s k = where_sized (is_vector n (length v) && is_vector n k) (vec_scale n v s)

@@ -1,17 +1,21 @@
 -- Laws of the functions cell by cell: what the used parts of their operands come to, and the loops that add and that compare. Assumes nothing.
 use mathlib.Core.Path.{◌≡◌, refl, sym, ap, ap₂, ◌∙◌}
-use mathlib.Core.List.{List}
+use mathlib.Core.List.{List, [], ◌∷◌}
 use mathlib.Core.Bool.{Bool, true, false, ◌&&◌}
 use mathlib.Core.Logic.{⊎_elim}
 use Prim.Native.Nat.{ℕ, zero, suc, ◌+◌, ◌≤◌, ◌<◌, suc-le-suc}
 use native.Mathlib.Nat.{le_of_lt, le_refl, not-suc-le-zero, le_of_suc-le-suc, eq-or-lt_of_le}
 use native.Mathlib.Numerals.{add-one}
 use native.Mathlib.Omega.{arith}
-use lib.Ieee.{Float, eq}
-use lib.ListN.{replicate}
+use lib.Ieee.{Float, eq, nan}
+use lib.ListN.{length, take, replicate}
+use lib.Pointwise.{pointwise}
+use Rattle.std.proofs.lemmas.List.{get_or-take, length-take-le}
+use Rattle.std.proofs.Math.Bool.{and_assoc}
 use Rattle.scalar.specs.Number.{◌⊗◌, +0}
-use Rattle.algebra.specs.Matrix.{cell, sum_from, sum_of, filled, scale, trace, squares, every, equal}
-use Rattle.algebra.specs.Array.{used}
+use Rattle.answer.proofs.Tables.{table_ext}
+use Rattle.algebra.specs.Matrix.{at, row, cell, sum_from, sum_of, filled, scale, trace, squares, every, equal}
+use Rattle.algebra.specs.Array.{cut, used}
 use Rattle.algebra.proofs.Matrices.{sum_from_ext, sum_ext}
 use Rattle.algebra.proofs.Arrays.{cell-used, used-mat, both_used}
 
@@ -57,7 +61,38 @@ squaring_all {a} {r} {c} {i} {k} {s} e h p =
     let same : i ≡ k = omega arith in
     e.is ∙ λ j. squares (same j) c (used (p j) c a)
 
+-- the front of a list, where it is at least so long
+pub squares-front : (n k : ℕ) (v : List Float) (s : Float) → n ≤ length v → n ≡ k
+    → sum_from s (length (take n v)) (λ j. at (take n v) j ⊗ at (take n v) j) ≡ sum_from s k (λ j. at v j ⊗ at v j)
+squares-front n k v s h e =
+    ap (λ (m : ℕ). sum_from s m (λ j. at (take n v) j ⊗ at (take n v) j)) (length-take-le n v h)
+    ∙ sum_from_ext n (λ j. at (take n v) j ⊗ at (take n v) j) (λ j. at v j ⊗ at v j) refl (λ j g. ap (λ (x : Float). x ⊗ x) (get_or-take n v j nan g))
+    ∙ ap (λ (m : ℕ). sum_from s m (λ j. at v j ⊗ at v j)) e
+
+-- and of a list of rows
+pub used-front : (n k c : ℕ) (a : List (List Float)) → n ≡ k → used k c (take n a) ≡ used k c a
+unfolding used
+used-front n k c a e = table_ext k (λ i. cut c (row (take n a) i)) (λ i. cut c (row a i)) (λ i h. ap (cut c) (get_or-take n a i [] (omega (arith, e))))
+
 -- ---- tests that all hold
+and-true : (b : Bool) → b && true ≡ b
+and-true true = refl
+and-true false = refl
+
+every-front : (n : ℕ) (f : ℕ → Bool) → every (suc n) f ≡ f 0 && every n (λ i. f (suc i))
+unfolding every
+every-front zero f = sym (and-true (f 0))
+every-front (suc n) f = ap (λ (b : Bool). b && f (suc n)) (every-front n f) ∙ and_assoc (f 0) (every n (λ i. f (suc i))) (f (suc n))
+
+-- `==` of the fronts of two lists, where they are at least so long
+pub equal-front : (n : ℕ) (v w : List Float) → n ≤ length v → n ≤ length w → pointwise eq (take n v) (take n w) ≡ every n (λ j. eq (at v j) (at w j))
+unfolding every
+equal-front zero v w h g = refl
+equal-front (suc n) [] w h g = absurd (not-suc-le-zero h)
+equal-front (suc n) (x ∷ v) [] h g = absurd (not-suc-le-zero g)
+equal-front (suc n) (x ∷ v) (y ∷ w) h g =
+    ap (λ (b : Bool). eq x y && b) (equal-front n v w (le_of_suc-le-suc h) (le_of_suc-le-suc g)) ∙ sym (every-front n (λ j. eq (at (x ∷ v) j) (at (y ∷ w) j)))
+
 every_ext : (n : ℕ) (f g : ℕ → Bool) → ((i : ℕ) → i < n → f i ≡ g i) → every n f ≡ every n g
 unfolding every
 every_ext zero f g h = refl

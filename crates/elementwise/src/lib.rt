@@ -9,18 +9,19 @@ ghost use Rattle.answer.specs.Answer.{where_sized};
 ghost use Rattle.algebra.specs.Matrix.{at, cell, zeros, filled, identity, transpose, add, sub, scale, negated};
 ghost use Rattle.algebra.specs.Matrix.{set_cell, sum_from, squares, frob_norm, trace, every, equal};
 ghost use Rattle.algebra.specs.Array.{used, used_flat};
-ghost use Rattle.matrix.specs.Result.{as_matrix, as_scalar, as_test};
+ghost use Rattle.matrix.specs.Result.{as_matrix};
+ghost use Rattle.rows.specs.Row.{cellwise};
 ghost use Rattle.sizes.specs.Size.{count, part, sized, shaped, alike, inside};
-ghost use Rattle.elementwise.specs.Record.{record_of, made_of};
+ghost use Rattle.elementwise.specs.Record.{record_of};
 
-use answer::Status;
-use matrix::{MatrixResult, ScalarResult, TestResult, matrix_refused, matrix_result};
+use answer::Refusal;
+use rows::{Difference, Operation, Sum};
 use scalar::ControlScalar;
-use sizes::{Size, is_alike, is_inside, is_shape, is_size, number, size_of};
+use sizes::Size;
 
 // ---- a matrix as a record
 
-// A matrix with its used sizes, the rows flat, four numbers a row. Its fields can hold anything.
+// A matrix with its used sizes, in fixed memory, the rows flat, four numbers a row. Its fields can hold anything.
 #[derive(Clone, Copy)]
 pub struct Matrix {
     pub rows: usize,
@@ -28,78 +29,54 @@ pub struct Matrix {
     pub cells: [f64; 16],
 }
 
-// A matrix of an array of rows, beside its case.
-#[derive(Clone, Copy)]
-pub struct MatrixMade {
-    pub status: Status,
-    pub matrix: Matrix,
-}
-
 // The used part of a, of r rows and c columns. Refused with 1: a size.
-fn part_of(a: &[[f64; 4]; 4], r: usize, c: usize) -> MatrixResult
+fn part_of(a: &[[f64; 4]; 4], r: usize, c: usize) -> Result<[[f64; 4]; 4], Refusal>
     ensures { result ≡ as_matrix (where_sized (shaped r c) (used r c a.now)) }
 {
-    if is_shape(r, c) {
-        let rows = size_of(r);
-        let cols = size_of(c);
-        matrix_result(Status::Done, rows::used_part(a, rows, cols))
-    } else {
-        matrix_refused(1)
-    }
+    let (rows, cols) = sizes::shape(r, c)?;
+    Ok(rows::used_part(a, rows, cols))
 }
 
 // Refused with 1 where a size is not 1 to 4.
 impl Matrix {
-    pub fn zeros(rows: usize, cols: usize) -> MatrixResult
+    #[tactic(auto, unfolding(algebra::specs::Matrix::zeros))]
+    pub fn zeros(rows: usize, cols: usize) -> Result<[[f64; 4]; 4], Refusal>
         ensures { result ≡ as_matrix (where_sized (shaped rows cols) (zeros rows cols)) }
     {
         Matrix::filled(rows, cols, 0.0)
     }
 
-    pub fn filled(rows: usize, cols: usize, val: f64) -> MatrixResult
+    pub fn filled(rows: usize, cols: usize, val: f64) -> Result<[[f64; 4]; 4], Refusal>
         ensures { result ≡ as_matrix (where_sized (shaped rows cols) (filled rows cols val)) }
     {
         let a = [[val; 4]; 4];
         part_of(&a, rows, cols)
     }
 
-    pub fn identity(n: usize) -> MatrixResult
+    pub fn identity(n: usize) -> Result<[[f64; 4]; 4], Refusal>
         ensures { result ≡ as_matrix (where_sized (sized n) (identity n)) }
     {
         let e = kernel::identity_rows();
         part_of(&e, n, n)
     }
 
-    pub fn default(rows: usize, cols: usize) -> MatrixResult
+    pub fn default(rows: usize, cols: usize) -> Result<[[f64; 4]; 4], Refusal>
         ensures { result ≡ as_matrix (where_sized (shaped rows cols) (zeros rows cols)) }
     {
         Matrix::zeros(rows, cols)
     }
 
     // The record of an array of rows, its unused cells +0.
-    pub fn from_rows(a: [[f64; 4]; 4], rows: usize, cols: usize) -> MatrixMade
-        ensures { result ≡ made_of (where_sized (shaped rows cols) (record_of rows cols (used rows cols a))) }
+    pub fn from_rows(a: [[f64; 4]; 4], rows: usize, cols: usize) -> Result<Matrix, Refusal>
+        ensures { result ≡ where_sized (shaped rows cols) (record_of rows cols (used rows cols a)) }
     {
-        if is_shape(rows, cols) {
-            let cells = kernel::flat_part(&a, size_of(rows), size_of(cols));
-            MatrixMade {
-                status: Status::Done,
-                matrix: Matrix { rows, cols, cells },
-            }
-        } else {
-            MatrixMade {
-                status: Status::Refused(1),
-                matrix: Matrix {
-                    rows: 0,
-                    cols: 0,
-                    cells: [0.0; 16],
-                },
-            }
-        }
+        let (r, c) = sizes::shape(rows, cols)?;
+        let cells = kernel::flat_part(&a, r, c);
+        Ok(Matrix { rows, cols, cells })
     }
 
     // The array of rows, its unused cells +0.
-    pub fn to_rows(self) -> MatrixResult
+    pub fn to_rows(self) -> Result<[[f64; 4]; 4], Refusal>
         ensures { result ≡ as_matrix (where_sized (shaped self.rows self.cols) (used_flat self.rows self.cols self.cells)) }
     {
         let rows = self.rows;
@@ -113,19 +90,29 @@ impl Matrix {
 // ---- cell by cell
 
 // a, of r rows and c columns, as c rows and r columns. Refused with 1: a size.
-pub fn transpose(a: [[f64; 4]; 4], r: usize, c: usize) -> MatrixResult
+pub fn transpose(a: [[f64; 4]; 4], r: usize, c: usize) -> Result<[[f64; 4]; 4], Refusal>
     ensures { result ≡ as_matrix (where_sized (shaped r c) (transpose r c (used r c a))) }
 {
-    if is_shape(r, c) {
-        let rows = size_of(r);
-        let cols = size_of(c);
-        matrix_result(Status::Done, rows::transposed(&a, rows, cols))
-    } else {
-        matrix_refused(1)
-    }
+    let (rows, cols) = sizes::shape(r, c)?;
+    Ok(rows::transposed(&a, rows, cols))
 }
 
-// a plus b, of the same sizes. Refused with 1: a size, or the sizes differ.
+// The operation, cell by cell, on a and b of the same sizes. Refused with 1, as what follows: a size, or the sizes differ.
+fn cellwise<O: Operation>(
+    a: [[f64; 4]; 4],
+    ar: usize,
+    ac: usize,
+    b: [[f64; 4]; 4],
+    br: usize,
+    bc: usize,
+) -> Result<[[f64; 4]; 4], Refusal>
+    ensures { result ≡ as_matrix (where_sized (alike ar ac br bc) (cellwise O.op ar ac (used ar ac a) (used ar ac b))) }
+{
+    let (r, c) = sizes::alike(ar, ac, br, bc)?;
+    Ok(kernel::cellwise::<O>(&a, &b, r, c))
+}
+
+#[tactic(auto, unfolding(algebra::specs::Matrix::add))]
 pub fn add_mat(
     a: [[f64; 4]; 4],
     ar: usize,
@@ -133,19 +120,13 @@ pub fn add_mat(
     b: [[f64; 4]; 4],
     br: usize,
     bc: usize,
-) -> MatrixResult
+) -> Result<[[f64; 4]; 4], Refusal>
     ensures { result ≡ as_matrix (where_sized (alike ar ac br bc) (add ar ac (used ar ac a) (used ar ac b))) }
 {
-    if is_alike(ar, ac, br, bc) {
-        let r = size_of(ar);
-        let c = size_of(ac);
-        matrix_result(Status::Done, kernel::sum(&a, &b, r, c))
-    } else {
-        matrix_refused(1)
-    }
+    cellwise::<Sum>(a, ar, ac, b, br, bc)
 }
 
-// a less b, of the same sizes. Refused as add_mat.
+#[tactic(auto, unfolding(algebra::specs::Matrix::sub))]
 pub fn sub_mat(
     a: [[f64; 4]; 4],
     ar: usize,
@@ -153,19 +134,14 @@ pub fn sub_mat(
     b: [[f64; 4]; 4],
     br: usize,
     bc: usize,
-) -> MatrixResult
+) -> Result<[[f64; 4]; 4], Refusal>
     ensures { result ≡ as_matrix (where_sized (alike ar ac br bc) (sub ar ac (used ar ac a) (used ar ac b))) }
 {
-    if is_alike(ar, ac, br, bc) {
-        let r = size_of(ar);
-        let c = size_of(ac);
-        matrix_result(Status::Done, kernel::difference(&a, &b, r, c))
-    } else {
-        matrix_refused(1)
-    }
+    cellwise::<Difference>(a, ar, ac, b, br, bc)
 }
 
 // Each of the four rows times s.
+#[tactic(auto, unfolding(algebra::specs::Matrix::scale, algebra::specs::Matrix::vec_scale))]
 fn scaled(a: &[[f64; 4]; 4], s: f64) -> [[f64; 4]; 4]
     ensures { result ≡ scale 4 4 a.now s }
 {
@@ -177,7 +153,7 @@ fn scaled(a: &[[f64; 4]; 4], s: f64) -> [[f64; 4]; 4]
 }
 
 // Each cell of a times s. Refused with 1: a size.
-pub fn scale(a: [[f64; 4]; 4], r: usize, c: usize, s: f64) -> MatrixResult
+pub fn scale(a: [[f64; 4]; 4], r: usize, c: usize, s: f64) -> Result<[[f64; 4]; 4], Refusal>
     ensures { result ≡ as_matrix (where_sized (shaped r c) (scale r c (used r c a) s)) }
 {
     let m = scaled(&a, s);
@@ -185,36 +161,36 @@ pub fn scale(a: [[f64; 4]; 4], r: usize, c: usize, s: f64) -> MatrixResult
 }
 
 // a scaled by -1: a product in each cell, not a flipped sign. Refused with 1: a size.
-pub fn neg(a: [[f64; 4]; 4], r: usize, c: usize) -> MatrixResult
+#[tactic(auto, unfolding(algebra::specs::Matrix::negated))]
+pub fn neg(a: [[f64; 4]; 4], r: usize, c: usize) -> Result<[[f64; 4]; 4], Refusal>
     ensures { result ≡ as_matrix (where_sized (shaped r c) (negated r c (used r c a))) }
 {
     scale(a, r, c, -1.0)
 }
 
 // The cell in row i, column j. Refused with 1: a size, or the cell is not in the used part.
-pub fn get(a: [[f64; 4]; 4], r: usize, c: usize, i: usize, j: usize) -> ScalarResult
-    ensures { result ≡ as_scalar (where_sized (inside r c i j) (cell (used r c a) i j)) }
+pub fn get(a: [[f64; 4]; 4], r: usize, c: usize, i: usize, j: usize) -> Result<f64, Refusal>
+    ensures { result ≡ where_sized (inside r c i j) (cell (used r c a) i j) }
 {
-    if is_inside(r, c, i, j) {
-        ScalarResult::Value(a[i][j])
-    } else {
-        ScalarResult::Refused(1)
-    }
+    sizes::inside(r, c, i, j)?;
+    Ok(a[i][j])
 }
 
 // a with val in row i, column j. Refused as get.
-pub fn set(a: [[f64; 4]; 4], r: usize, c: usize, i: usize, j: usize, val: f64) -> MatrixResult
+pub fn set(
+    a: [[f64; 4]; 4],
+    r: usize,
+    c: usize,
+    i: usize,
+    j: usize,
+    val: f64,
+) -> Result<[[f64; 4]; 4], Refusal>
     ensures { result ≡ as_matrix (where_sized (inside r c i j) (set_cell r c i j val (used r c a))) }
 {
-    if is_inside(r, c, i, j) {
-        let rows = size_of(r);
-        let cols = size_of(c);
-        let mut out = rows::used_part(&a, rows, cols);
-        out[i][j] = val;
-        matrix_result(Status::Done, out)
-    } else {
-        matrix_refused(1)
-    }
+    let (rows, cols) = sizes::inside(r, c, i, j)?;
+    let mut out = rows::used_part(&a, rows, cols);
+    out[i][j] = val;
+    Ok(out)
 }
 
 // ---- sums over cells
@@ -223,10 +199,9 @@ pub fn set(a: [[f64; 4]; 4], r: usize, c: usize, i: usize, j: usize, val: f64) -
 fn squares_row(v: [f64; 4], n: Size, s: f64) -> f64
     ensures { result ≡ sum_from s (count n) (λ j. at v j ⊗ at v j) }
 {
-    let cols = number(n);
     let mut t = s;
-    for j in 0..cols {
-        t = t + v[j] * v[j];
+    for x in &v[..usize::from(n)] {
+        t = t + *x * *x;
     }
     t
 }
@@ -235,32 +210,26 @@ fn squares_row(v: [f64; 4], n: Size, s: f64) -> f64
 fn sum_of_squares(a: &[[f64; 4]; 4], r: Size, c: Size) -> f64
     ensures { result ≡ squares (count r) (count c) (part r c a.now) }
 {
-    let rows = number(r);
     let mut s = 0.0;
-    for i in 0..rows {
-        s = squares_row(a[i], c, s);
+    for row in &a[..usize::from(r)] {
+        s = squares_row(*row, c, s);
     }
     s
 }
 
 // The Frobenius norm, the root of the sum of the squares. Refused with 1: a size.
-pub fn frob_norm(a: [[f64; 4]; 4], r: usize, c: usize) -> ScalarResult
-    ensures { result ≡ as_scalar (where_sized (shaped r c) (frob_norm r c (used r c a))) }
+pub fn frob_norm(a: [[f64; 4]; 4], r: usize, c: usize) -> Result<f64, Refusal>
+    ensures { result ≡ where_sized (shaped r c) (frob_norm r c (used r c a)) }
 {
-    if is_shape(r, c) {
-        let rows = size_of(r);
-        let cols = size_of(c);
-        ScalarResult::Value(ControlScalar::sqrt(sum_of_squares(&a, rows, cols)))
-    } else {
-        ScalarResult::Refused(1)
-    }
+    let (rows, cols) = sizes::shape(r, c)?;
+    Ok(ControlScalar::sqrt(sum_of_squares(&a, rows, cols)))
 }
 
-// The sum of the diagonal, from +0 on.
+// The sum of the diagonal, from +0 on: one index is both row and column.
 fn diagonal_sum(a: &[[f64; 4]; 4], n: Size) -> f64
     ensures { result ≡ trace (count n) (part n n a.now) }
 {
-    let rows = number(n);
+    let rows = usize::from(n);
     let mut t = 0.0;
     for i in 0..rows {
         t = t + a[i][i];
@@ -269,15 +238,11 @@ fn diagonal_sum(a: &[[f64; 4]; 4], n: Size) -> f64
 }
 
 // The sum of the diagonal of a, n rows and columns. Refused with 1: the size.
-pub fn trace(a: [[f64; 4]; 4], n: usize) -> ScalarResult
-    ensures { result ≡ as_scalar (where_sized (sized n) (trace n (used n n a))) }
+pub fn trace(a: [[f64; 4]; 4], n: usize) -> Result<f64, Refusal>
+    ensures { result ≡ where_sized (sized n) (trace n (used n n a)) }
 {
-    if is_size(n) {
-        let k = size_of(n);
-        ScalarResult::Value(diagonal_sum(&a, k))
-    } else {
-        ScalarResult::Refused(1)
-    }
+    let k = Size::try_from(n)?;
+    Ok(diagonal_sum(&a, k))
 }
 
 // ---- comparison
@@ -286,20 +251,15 @@ pub fn trace(a: [[f64; 4]; 4], n: usize) -> ScalarResult
 fn equal_row(v: [f64; 4], w: [f64; 4], n: Size) -> bool
     ensures { result ≡ every (count n) (λ j. eq (at v j) (at w j)) }
 {
-    let cols = number(n);
-    for j in 0..cols {
-        if v[j] != w[j] {
-            return false;
-        }
-    }
-    true
+    let cols = usize::from(n);
+    v[..cols] == w[..cols]
 }
 
-// Whether all used cells are equal.
+// Whether all used cells are equal. An index goes through both in step.
 fn equal_rows<'a>(a: &'a [[f64; 4]; 4], b: &'a [[f64; 4]; 4], r: Size, c: Size) -> bool
     ensures { result ≡ equal (count r) (count c) (part r c a.now) (part r c b.now) }
 {
-    let rows = number(r);
+    let rows = usize::from(r);
     for i in 0..rows {
         if !equal_row(a[i], b[i], c) {
             return false;
@@ -308,7 +268,7 @@ fn equal_rows<'a>(a: &'a [[f64; 4]; 4], b: &'a [[f64; 4]; 4], r: Size, c: Size) 
     true
 }
 
-// Whether a and b are equal, as f64's ==: -0 equals +0, and a NaN equals nothing. Refused as add_mat.
+// Whether a and b are equal, as f64's ==, which is no equivalence: -0 equals +0, and a NaN equals nothing. Refused as add_mat.
 pub fn eq(
     a: [[f64; 4]; 4],
     ar: usize,
@@ -316,14 +276,9 @@ pub fn eq(
     b: [[f64; 4]; 4],
     br: usize,
     bc: usize,
-) -> TestResult
-    ensures { result ≡ as_test (where_sized (alike ar ac br bc) (equal ar ac (used ar ac a) (used ar ac b))) }
+) -> Result<bool, Refusal>
+    ensures { result ≡ where_sized (alike ar ac br bc) (equal ar ac (used ar ac a) (used ar ac b)) }
 {
-    if is_alike(ar, ac, br, bc) {
-        let r = size_of(ar);
-        let c = size_of(ac);
-        TestResult::Value(equal_rows(&a, &b, r, c))
-    } else {
-        TestResult::Refused(1)
-    }
+    let (r, c) = sizes::alike(ar, ac, br, bc)?;
+    Ok(equal_rows(&a, &b, r, c))
 }

@@ -8,11 +8,13 @@ ghost use Rattle.answer.specs.Table.{table};
 ghost use Rattle.algebra.specs.Matrix.{at, identity, add, sub, mul, matvec, vec_add, vec_sub, dot as dot_of};
 ghost use Rattle.algebra.specs.Array.{pad_row, pad, rows_of_flat, flat_of_rows};
 ghost use Rattle.sizes.specs.Size.{count, front, part};
+ghost use Rattle.rows.specs.Row.{pairwise, cellwise};
 
 use rows::{
-    leading, leading_rows, row_difference, row_product, row_product_transposed, row_sum, used_part,
+    Difference, Operation, Sum, leading, leading_rows, row_pairwise, row_product,
+    row_product_transposed, used_part,
 };
-use sizes::{Size, number};
+use sizes::Size;
 
 // ---- matrices
 
@@ -27,7 +29,7 @@ pub fn product<'a>(
     ensures { result ≡ pad (mul (count r) (count k) (count c) (part r k a.now) (part k c b.now)) }
 {
     let none = [0.0; 4];
-    let rows = number(r);
+    let rows = usize::from(r);
     let r0 = leading(row_product(a[0], b, k), c);
     if rows < 2 {
         return [r0, none, none, none];
@@ -44,29 +46,39 @@ pub fn product<'a>(
     [r0, r1, r2, r3]
 }
 
-// a + b, both of r rows and c columns.
+// The operation, cell by cell; a and b of r rows and c columns.
+pub fn cellwise<'a, O: Operation>(
+    a: &'a [[f64; 4]; 4],
+    b: &'a [[f64; 4]; 4],
+    r: Size,
+    c: Size,
+) -> [[f64; 4]; 4]
+    ensures { result ≡ pad (cellwise O.op (count r) (count c) (part r c a.now) (part r c b.now)) }
+{
+    let r0 = row_pairwise::<O>(a[0], b[0]);
+    let r1 = row_pairwise::<O>(a[1], b[1]);
+    let r2 = row_pairwise::<O>(a[2], b[2]);
+    let r3 = row_pairwise::<O>(a[3], b[3]);
+    leading_rows(r0, r1, r2, r3, r, c)
+}
+
+#[tactic(auto, unfolding(algebra::specs::Matrix::add))]
 pub fn sum<'a>(a: &'a [[f64; 4]; 4], b: &'a [[f64; 4]; 4], r: Size, c: Size) -> [[f64; 4]; 4]
     ensures { result ≡ pad (add (count r) (count c) (part r c a.now) (part r c b.now)) }
 {
-    let r0 = row_sum(a[0], b[0]);
-    let r1 = row_sum(a[1], b[1]);
-    let r2 = row_sum(a[2], b[2]);
-    let r3 = row_sum(a[3], b[3]);
-    leading_rows(r0, r1, r2, r3, r, c)
+    cellwise::<Sum>(a, b, r, c)
 }
 
 // a - b.
+#[tactic(auto, unfolding(algebra::specs::Matrix::sub))]
 pub fn difference<'a>(a: &'a [[f64; 4]; 4], b: &'a [[f64; 4]; 4], r: Size, c: Size) -> [[f64; 4]; 4]
     ensures { result ≡ pad (sub (count r) (count c) (part r c a.now) (part r c b.now)) }
 {
-    let r0 = row_difference(a[0], b[0]);
-    let r1 = row_difference(a[1], b[1]);
-    let r2 = row_difference(a[2], b[2]);
-    let r3 = row_difference(a[3], b[3]);
-    leading_rows(r0, r1, r2, r3, r, c)
+    cellwise::<Difference>(a, b, r, c)
 }
 
 // The identity of four rows.
+#[tactic(auto, unfolding(algebra::specs::Matrix::identity))]
 pub fn identity_rows() -> [[f64; 4]; 4]
     ensures { result ≡ identity 4 }
 {
@@ -86,19 +98,28 @@ pub fn product_vector<'a>(a: &'a [[f64; 4]; 4], v: &'a [f64; 4], r: Size, n: Siz
     leading(row_product_transposed(*v, a, n), r)
 }
 
+// The operation, number by number; v and w of n components.
+pub fn pairwise<O: Operation>(v: [f64; 4], w: [f64; 4], n: Size) -> [f64; 4]
+    ensures { result ≡ pad_row (pairwise O.op (count n) (front n v) (front n w)) }
+{
+    leading(row_pairwise::<O>(v, w), n)
+}
+
+#[tactic(auto, unfolding(algebra::specs::Matrix::vec_add))]
 pub fn vector_sum(v: [f64; 4], w: [f64; 4], n: Size) -> [f64; 4]
     ensures { result ≡ pad_row (vec_add (count n) (front n v) (front n w)) }
 {
-    leading(row_sum(v, w), n)
+    pairwise::<Sum>(v, w, n)
 }
 
+#[tactic(auto, unfolding(algebra::specs::Matrix::vec_sub))]
 pub fn vector_difference(v: [f64; 4], w: [f64; 4], n: Size) -> [f64; 4]
     ensures { result ≡ pad_row (vec_sub (count n) (front n v) (front n w)) }
 {
-    leading(row_difference(v, w), n)
+    pairwise::<Difference>(v, w, n)
 }
 
-// The sum of the first n products of v and w; +0 where n is above 4.
+// The sum of the first n products of v and w; +0 where n is above 4. An index goes through both in step.
 pub fn dot<'a>(v: &'a [f64; 4], w: &'a [f64; 4], n: usize) -> f64
     ensures { result ≡ cond (leb n 4) (dot_of n v.now w.now) +0 }
 {
@@ -122,6 +143,7 @@ fn four_from(f: &[f64; 16], k: usize) -> [f64; 4]
 }
 
 // Row i is numbers 4 i to 4 i + 3.
+#[tactic(auto, unfolding(algebra::specs::Array::rows_of_flat, algebra::specs::Array::used_flat))]
 pub fn from_flat(cells: &[f64; 16]) -> [[f64; 4]; 4]
     ensures { result ≡ rows_of_flat cells.now }
 {
@@ -132,7 +154,7 @@ pub fn from_flat(cells: &[f64; 16]) -> [[f64; 4]; 4]
     [r0, r1, r2, r3]
 }
 
-// The rows, one after another.
+// The rows, one after another, by one index: `as_flattened` does not tell how long rows behind a reference are.
 pub fn to_flat(rows: &[[f64; 4]; 4]) -> [f64; 16]
     ensures { result ≡ flat_of_rows rows.now }
 {

@@ -9,7 +9,7 @@ use Rattle.answer.specs.Table.{table}
 use Rattle.algebra.specs.Matrix.{Vector, Matrix, at, row, cell, mat, sum_of, identity, transpose, add, sub, mul, vec_add, vec_sub}
 use Rattle.algebra.specs.Array.{cut, used, pad_row}
 use Rattle.sizes.proofs.Sizes.{Bounds}
-use Rattle.rows.specs.Row.{row_times, row_times_transposed}
+use Rattle.rows.specs.Row.{pairwise, cellwise, row_times, row_times_transposed}
 use Rattle.answer.proofs.Tables.{get_or-table, table_ext, table-get_or}
 use Rattle.algebra.proofs.Matrices.{sum_ext, cell-mat, Shape}
 use Rattle.algebra.proofs.Arrays.{at_cut, cell-used, row-used, identity-used}
@@ -52,17 +52,17 @@ row_of_identity {n} {i} {e} h N d = record {
 
 -- ---- sums and differences
 module _ {r c : ℕ} {A B : Matrix} {i : ℕ} {v w s : List Float} (a : RowOf r c A i v) (b : RowOf r c B i w) where
+  row_paired : (f : Float → Float → Float) → s ≡ pairwise f 4 v w → RowOf r c (cellwise f r c A B) i s
+  row_paired f e =
+      row_made r c (λ j. f (at v j) (at w j)) (λ k j. f (cell A k j) (cell B k j)) i a.within a.size (λ j k. ap₂ f (at_row a j k) (at_row b j k)) e
+
   pub row_of_sum : s ≡ vec_add 4 v w → RowOf r c (add r c A B) i s
   unfolding add vec_add
-  row_of_sum e =
-      row_made r c (λ j. at v j ⊕ at w j) (λ k j. cell A k j ⊕ cell B k j) i a.within a.size
-      (λ j k. ap₂ (λ (x y : Float). x ⊕ y) (at_row a j k) (at_row b j k)) e
+  row_of_sum e = row_paired (λ x y. x ⊕ y) e
 
   pub row_of_difference : s ≡ vec_sub 4 v w → RowOf r c (sub r c A B) i s
   unfolding sub vec_sub
-  row_of_difference e =
-      row_made r c (λ j. at v j ⊖ at w j) (λ k j. cell A k j ⊖ cell B k j) i a.within a.size
-      (λ j k. ap₂ (λ (x y : Float). x ⊖ y) (at_row a j k) (at_row b j k)) e
+  row_of_difference e = row_paired (λ x y. x ⊖ y) e
 
 -- ---- products
 module _ {r k c : ℕ} {A : Matrix} {i : ℕ} {v s : List Float} (a : RowOf r k A i v) (C : Bounds c) where

@@ -2,7 +2,15 @@
 use Rattle.std.specs.Prelude.{ℕ, List, Float}
 use Rattle.scalar.specs.Number.{◌⊕◌, ◌⊗◌}
 use Rattle.answer.specs.Table.{table}
-use Rattle.algebra.specs.Matrix.{at, cell, sum_of}
+use Rattle.algebra.specs.Matrix.{Vector, Matrix, at, cell, mat, sum_of}
+
+-- f of the numbers of v and w, place by place
+abbrev pub pairwise : (Float → Float → Float) → ℕ → Vector → Vector → Vector
+pairwise f n v w = table n (λ i. f (at v i) (at w i))
+
+-- and of the cells of A and B
+abbrev pub cellwise : (Float → Float → Float) → ℕ → ℕ → Matrix → Matrix → Matrix
+cellwise f r c A B = mat r c (λ i j. f (cell A i j) (cell B i j))
 
 -- s + x v
 unfoldable pub plus_scaled : List Float → Float → List Float → List Float

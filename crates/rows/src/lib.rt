@@ -3,30 +3,75 @@
 // a table of jumps.
 #![tactic(auto)]
 
-ghost use Rattle.std.specs.Prelude.{◌≡◌, cond, [], ◌∷◌, ◌<◌, eqb};
+ghost use Rattle.std.specs.Prelude.{◌≡◌, cond, [], ◌∷◌, ◌<◌, eqb, Float};
+ghost use Rattle.scalar.specs.Number.{◌⊕◌, ◌⊖◌};
 ghost use Rattle.answer.specs.Table.{table};
 ghost use Rattle.algebra.specs.Matrix.{at, cell, transpose, vec_add, vec_sub, vec_scale};
 ghost use Rattle.algebra.specs.Array.{pad_row, pad};
 ghost use Rattle.sizes.specs.Size.{count, front, part};
-ghost use Rattle.rows.specs.Row.{plus_scaled, row_times, row_times_transposed};
+ghost use Rattle.rows.specs.Row.{pairwise, plus_scaled, row_times, row_times_transposed};
 
-use sizes::{Size, number};
+use sizes::Size;
+
+// ---- an operation on two numbers, which rounds once
+
+pub trait Operation {
+    ghost op: { Float → Float → Float };
+
+    fn of(x: f64, y: f64) -> f64
+        ensures { result ≡ op x y };
+}
+
+pub struct Sum;
+
+impl Operation for Sum {
+    ghost op = { λ x y. x ⊕ y };
+
+    fn of(x: f64, y: f64) -> f64 {
+        x + y
+    }
+}
+
+pub struct Difference;
+
+impl Operation for Difference {
+    ghost op = { λ x y. x ⊖ y };
+
+    fn of(x: f64, y: f64) -> f64 {
+        x - y
+    }
+}
 
 // ---- rows: all four numbers
 
+// The operation, number by number.
+pub fn row_pairwise<O: Operation>(v: [f64; 4], w: [f64; 4]) -> [f64; 4]
+    ensures { result ≡ pairwise O.op 4 v w }
+{
+    [
+        O::of(v[0], w[0]),
+        O::of(v[1], w[1]),
+        O::of(v[2], w[2]),
+        O::of(v[3], w[3]),
+    ]
+}
+
+#[tactic(auto, unfolding(algebra::specs::Matrix::vec_add))]
 pub fn row_sum(v: [f64; 4], w: [f64; 4]) -> [f64; 4]
     ensures { result ≡ vec_add 4 v w }
 {
-    [v[0] + w[0], v[1] + w[1], v[2] + w[2], v[3] + w[3]]
+    row_pairwise::<Sum>(v, w)
 }
 
+#[tactic(auto, unfolding(algebra::specs::Matrix::vec_sub))]
 pub fn row_difference(v: [f64; 4], w: [f64; 4]) -> [f64; 4]
     ensures { result ≡ vec_sub 4 v w }
 {
-    [v[0] - w[0], v[1] - w[1], v[2] - w[2], v[3] - w[3]]
+    row_pairwise::<Difference>(v, w)
 }
 
 // Each number times s.
+#[tactic(auto, unfolding(algebra::specs::Matrix::vec_scale))]
 pub fn row_scaled(v: [f64; 4], s: f64) -> [f64; 4]
     ensures { result ≡ vec_scale 4 v s }
 {
@@ -37,7 +82,7 @@ pub fn row_scaled(v: [f64; 4], s: f64) -> [f64; 4]
 pub fn leading(v: [f64; 4], n: Size) -> [f64; 4]
     ensures { result ≡ pad_row (front n v) }
 {
-    let k = number(n);
+    let k = usize::from(n);
     if k < 2 {
         return [v[0], 0.0, 0.0, 0.0];
     }
@@ -77,6 +122,7 @@ fn column(a: &[[f64; 4]; 4], j: usize) -> [f64; 4]
 }
 
 // s + x v
+#[tactic(auto, unfolding(crate::specs::Row::plus_scaled))]
 fn row_plus_scaled(s: [f64; 4], x: f64, v: [f64; 4]) -> [f64; 4]
     ensures { result ≡ plus_scaled s «x» v }
 {
@@ -100,7 +146,7 @@ pub fn combination(
 ) -> [f64; 4]
     ensures { result ≡ row_times (count k) v (r0 ∷ r1 ∷ r2 ∷ r3 ∷ []) }
 {
-    let n = number(k);
+    let n = usize::from(k);
     let s1 = row_plus_scaled([0.0; 4], v[0], r0);
     if n < 2 {
         return s1;
@@ -144,7 +190,7 @@ pub fn leading_rows(
     ensures { result ≡ pad (part r c (r0 ∷ r1 ∷ r2 ∷ r3 ∷ [])) }
 {
     let none = [0.0; 4];
-    let rows = number(r);
+    let rows = usize::from(r);
     let s0 = leading(r0, c);
     if rows < 2 {
         return [s0, none, none, none];

@@ -1,13 +1,11 @@
 -- `is_matrix` meets its contract: the product does not wrap where r and c are sizes.
-use mathlib.Core.Path.{◌≡◌, sym, ap, ◌∙◌}
-use mathlib.Core.Bool.{Bool, true, ◌&&◌}
+use mathlib.Core.Path.{◌≡◌, sym, ◌∙◌}
+use mathlib.Core.Bool.{true}
 use Prim.Native.Nat.{ℕ, ◌*◌, ◌≤◌}
 use native.Mathlib.Nat.{mul-le-mul}
 use native.Mathlib.Omega.{arith}
-use lib.Dec.{eqb}
 use Rattle.sizes.specs.Size.{shaped}
 use Rattle.sizes.proofs.Sizes.{sizes_of, bounds_of}
-use Rattle.c_slices.specs.Slices.{is_matrix}
 use Rattle.c_slices.proofs.is_matrix.Goals as goal
 
 few : (r c : ℕ) → shaped r c ≡ true → r * c ≤ 16
@@ -15,11 +13,3 @@ few r c e = let s = sizes_of r c e in mul-le-mul (bounds_of r s.rows).most (boun
 
 pub overflow_mul-result : goal.overflow_mul-result
 overflow_mul-result c = record { fits = omega (arith, few _ _ (sym c.is_shape.ensures ∙ c.if-is_shape.true)) }
-
-pub returns-then-is_shape : goal.returns-then-is_shape
-unfolding is_matrix
-returns-then-is_shape c = let a = c.args in ap (λ (t : Bool). t && eqb a.len (a.r * a.c)) (sym c.if-is_shape.true ∙ c.is_shape.ensures)
-
-pub returns-else-is_shape : goal.returns-else-is_shape
-unfolding is_matrix
-returns-else-is_shape c = let a = c.args in ap (λ (t : Bool). t && eqb a.len (a.r * a.c)) (sym c.if-is_shape.false ∙ c.is_shape.ensures)

@@ -1,22 +1,17 @@
--- `equal_row` meets its contract: the cells passed are equal (`Passing`), and one that is not settles it.
-use Prim.Native.Nat.{◌-◌}
-use lib.Ieee.{ne}
-use borrow.Author.Tests.{not-true, not-false}
+-- `equal_row` meets its contract: `==` of the fronts of two rows (`equal-front`).
+use mathlib.Core.Path.{ap, ◌∙◌}
+use Prim.Native.Nat.{ℕ}
 use native.Mathlib.Omega.{arith}
+use lib.Ieee.{eq}
+use Rattle.algebra.specs.Matrix.{at, every}
 use Rattle.sizes.proofs.Sizes.{bounds}
-use Rattle.elementwise.proofs.Cells.{passing_none, passing_more, passing_all, every_not}
+use Rattle.elementwise.proofs.Cells.{equal-front}
 use Rattle.elementwise.proofs.equal_row.Goals as goal
 
-pub loop-j-init : goal.loop-j-init
-loop-j-init c = (omega (arith, c.number-cols.ensures, bounds c.args.n), passing_none _ _)
-
-pub returns-then-v-j : goal.returns-then-v-j
-unfolding ne
-returns-then-v-j c = every_not _ _ c.loop-j.j (omega (arith, c.number-cols.ensures)) (not-true _ c.if-v-j.true)
-
-pub loop-j-preserved : goal.loop-j-preserved
-unfolding ne
-loop-j-preserved c = let v = c.loop-j.invariant in (v.0, passing_more v.1 (omega arith) (not-false _ c.if-v-j.false))
-
 pub returns : goal.returns
-returns c = passing_all c.loop-j.invariant.1 (omega arith) c.number-cols.ensures
+returns c =
+    let a = c.args in
+    let few = (bounds a.n).most in
+    c.eq.ensures
+    ∙ equal-front c.from-cols.result a.v a.w (omega (arith, c.from-cols.ensures)) (omega (arith, c.from-cols.ensures))
+    ∙ ap (λ (k : ℕ). every k (λ j. eq (at a.v j) (at a.w j))) c.from-cols.ensures

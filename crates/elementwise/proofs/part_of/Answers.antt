@@ -1,17 +1,7 @@
--- `part_of` meets its contract: its two ways out are those of the test of sizes, and the rows are the kernel's.
-use mathlib.Core.Path.{sym, ◌∙◌}
+-- `part_of` meets its contract: the rows are the kernel's.
 use Rattle.algebra.specs.Array.{used}
-use Rattle.sizes.proofs.Sizes.{sizes_of}
-use Rattle.matrix.proofs.Results.{matrix-refused}
-use Rattle.elementwise.proofs.Sized.{matrix_at}
+use Rattle.matrix.proofs.Results.{shape_given, matrix_at}
 use Rattle.elementwise.proofs.part_of.Goals as goal
 
-pub returns-then-is_shape : goal.returns-then-is_shape
-returns-then-is_shape c =
-    let a = c.args in
-    let e = sym c.is_shape.ensures ∙ c.if-is_shape.true in
-    matrix_at (λ r c. used r c a.a.now) e (sizes_of _ _ e) c.size_of-rows.ensures c.size_of-cols.ensures
-    c.matrix_result.ensures c.used_part.ensures
-
-pub returns-else-is_shape : goal.returns-else-is_shape
-returns-else-is_shape c = c.matrix_refused.ensures ∙ matrix-refused _ (sym c.is_shape.ensures ∙ c.if-is_shape.false)
+pub returns : goal.returns
+returns c = matrix_at (λ r k. used r k c.args.a.now) (shape_given _ _ c.shape.ensures c.in_ok-rows.was) c.used_part.ensures

@@ -1,12 +1,9 @@
 -- What the loop of `squares_row` keeps.
-use Prim.Native.Nat.{◌-◌, ◌≤◌}
+use lib.ListN.{length}
 use Rattle.scalar.specs.Number.{◌⊗◌}
 use Rattle.algebra.specs.Matrix.{at}
 use Rattle.algebra.proofs.Matrices.{Summing}
 use Rattle.elementwise.proofs.squares_row.Given as goal
 
-abbrev pub invariant-loop-j : goal.invariant-loop-j
-invariant-loop-j l = (l.cols ≤ 4) × Summing l.s (λ j'. at l.v j' ⊗ at l.v j') l.cols l.j l.t
-
-abbrev pub decreases-loop-j : goal.decreases-loop-j
-decreases-loop-j l = l.cols - l.j
+abbrev pub invariant-loop-x : goal.invariant-loop-x
+invariant-loop-x l = Summing l.s (λ j. at l.x-items j ⊗ at l.x-items j) (length l.x-items) l.x-index l.t

@@ -1,5 +1,4 @@
 -- `dot` meets its contract: a turn of the loop is a term of the sum, which starts at +0.
-use Prim.Native.Nat.{◌-◌}
 use mathlib.Core.Path.{refl, sym, ◌∙◌}
 use Rattle.answer.proofs.Choice.{cond-true, cond-false}
 use Rattle.algebra.specs.Matrix.{dot}

@@ -55,7 +55,7 @@ returns-then-rows-lt2 c =
     let r0 = c.before in
     let k = r0.before.before.before in
     let x = k.before in
-    rows_at 1 _ (row_of c.before.before.before.before.before) (is_one x.args.r k.number-rows.ensures c.if-rows-lt2.true) (λ i. first c.before i ∷ none ∷ none ∷ none ∷ []) (mul-used _ _ _ _ _)
+    rows_at 1 _ (row_of c.before.before.before.before.before) (is_one x.args.r k.from-rows.ensures c.if-rows-lt2.true) (λ i. first c.before i ∷ none ∷ none ∷ none ∷ []) (mul-used _ _ _ _ _)
 
 pub returns-then-rows-lt3 : goal.returns-then-rows-lt3
 returns-then-rows-lt3 c =
@@ -64,7 +64,7 @@ returns-then-rows-lt3 c =
     let r0 = t.before in
     let k = r0.before.before.before in
     let x = k.before in
-    rows_at 2 _ (row_of c.before.before.before.before.before.before.before.before.before) (exactly 2 k.number-rows.ensures t.if-rows-lt2.false c.if-rows-lt3.true) (λ i. first c.before.before.before.before.before i ∷ second c.before i ∷ none ∷ none ∷ []) (mul-used _ _ _ _ _)
+    rows_at 2 _ (row_of c.before.before.before.before.before.before.before.before.before) (exactly 2 k.from-rows.ensures t.if-rows-lt2.false c.if-rows-lt3.true) (λ i. first c.before.before.before.before.before i ∷ second c.before i ∷ none ∷ none ∷ []) (mul-used _ _ _ _ _)
 
 pub returns-then-rows-lt4 : goal.returns-then-rows-lt4
 returns-then-rows-lt4 c =
@@ -74,7 +74,7 @@ returns-then-rows-lt4 c =
     let r0 = r1.before.before.before.before in
     let k = r0.before.before.before in
     let x = k.before in
-    rows_at 3 _ (row_of c.before.before.before.before.before.before.before.before.before.before.before.before.before) (exactly 3 k.number-rows.ensures t.if-rows-lt3.false c.if-rows-lt4.true) (λ i. first c.before.before.before.before.before.before.before.before.before i ∷ second c.before.before.before.before.before i ∷ third c.before i ∷ none ∷ []) (mul-used _ _ _ _ _)
+    rows_at 3 _ (row_of c.before.before.before.before.before.before.before.before.before.before.before.before.before) (exactly 3 k.from-rows.ensures t.if-rows-lt3.false c.if-rows-lt4.true) (λ i. first c.before.before.before.before.before.before.before.before.before i ∷ second c.before.before.before.before.before i ∷ third c.before i ∷ none ∷ []) (mul-used _ _ _ _ _)
 
 pub returns : goal.returns
 returns c =
@@ -85,4 +85,4 @@ returns c =
     let k = r0.before.before.before in
     let x = k.before in
     let fourth = made c.before.before.before.before.before.before.before.before.before.before.before.before.before.before.before.before 3 c.row_product-4.ensures c.leading-r3.ensures in
-    rows_at 4 _ (row_of c.before.before.before.before.before.before.before.before.before.before.before.before.before.before.before.before) (is_four x.args.r k.number-rows.ensures t.if-rows-lt4.false) (λ i. first c.before.before.before.before.before.before.before.before.before.before.before.before i ∷ second c.before.before.before.before.before.before.before.before i ∷ third c.before.before.before.before i ∷ fourth i ∷ []) (mul-used _ _ _ _ _)
+    rows_at 4 _ (row_of c.before.before.before.before.before.before.before.before.before.before.before.before.before.before.before.before) (is_four x.args.r k.from-rows.ensures t.if-rows-lt4.false) (λ i. first c.before.before.before.before.before.before.before.before.before.before.before.before i ∷ second c.before.before.before.before.before.before.before.before i ∷ third c.before.before.before.before i ∷ fourth i ∷ []) (mul-used _ _ _ _ _)

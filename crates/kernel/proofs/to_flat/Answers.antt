@@ -1,5 +1,4 @@
 -- `to_flat` meets its contract: a turn stores one number (`Filling`).
-use Prim.Native.Nat.{◌-◌}
 use mathlib.Core.Path.{refl}
 use Rattle.algebra.specs.Array.{flat_of_rows}
 use Rattle.answer.proofs.Tables.{filling-none, filling-more, filling-all}

@@ -42,7 +42,7 @@ unfolding row_times
 returns-then-n-lt2 c =
     let k = c.before.before in
     let a = k.before in
-    sums_at a.args.v (rows_of c.before.before.before) 1 _ (is_one a.args.k k.number-n.ensures c.if-n-lt2.true) (one c.before)
+    sums_at a.args.v (rows_of c.before.before.before) 1 _ (is_one a.args.k k.from-n.ensures c.if-n-lt2.true) (one c.before)
 
 pub returns-then-n-lt3 : goal.returns-then-n-lt3
 unfolding row_times
@@ -50,7 +50,7 @@ returns-then-n-lt3 c =
     let t = c.before.before in
     let k = t.before.before in
     let a = k.before in
-    sums_at a.args.v (rows_of c.before.before.before.before.before) 2 _ (exactly 2 k.number-n.ensures t.if-n-lt2.false c.if-n-lt3.true) (two c.before)
+    sums_at a.args.v (rows_of c.before.before.before.before.before) 2 _ (exactly 2 k.from-n.ensures t.if-n-lt2.false c.if-n-lt3.true) (two c.before)
 
 pub returns-then-n-lt4 : goal.returns-then-n-lt4
 unfolding row_times
@@ -58,7 +58,7 @@ returns-then-n-lt4 c =
     let t = c.before.before in
     let k = t.before.before.before.before in
     let a = k.before in
-    sums_at a.args.v (rows_of c.before.before.before.before.before.before.before) 3 _ (exactly 3 k.number-n.ensures t.if-n-lt3.false c.if-n-lt4.true) (three c.before)
+    sums_at a.args.v (rows_of c.before.before.before.before.before.before.before) 3 _ (exactly 3 k.from-n.ensures t.if-n-lt3.false c.if-n-lt4.true) (three c.before)
 
 pub returns : goal.returns
 unfolding row_times
@@ -66,4 +66,4 @@ returns c =
     let t = c.before in
     let k = t.before.before.before.before.before.before in
     let a = k.before in
-    sums_at a.args.v (rows_of c.before.before.before.before.before.before.before.before) 4 _ (is_four a.args.k k.number-n.ensures t.if-n-lt4.false) (sums-more a.args.v (rows_of c.before.before.before.before.before.before.before.before) 3 (three c.before.before) refl c.row_plus_scaled.ensures)
+    sums_at a.args.v (rows_of c.before.before.before.before.before.before.before.before) 4 _ (is_four a.args.k k.from-n.ensures t.if-n-lt4.false) (sums-more a.args.v (rows_of c.before.before.before.before.before.before.before.before) 3 (three c.before.before) refl c.row_plus_scaled.ensures)

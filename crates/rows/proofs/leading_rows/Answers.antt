@@ -31,7 +31,7 @@ returns-then-rows-lt2 c =
     let s0 = c.before in
     let k = s0.before in
     let x = k.before in
-    rows_at 1 _ (row_of c.before.before.before) (is_one x.args.r k.number-rows.ensures c.if-rows-lt2.true) (λ i. s0.leading-s0.ensures i ∷ none ∷ none ∷ none ∷ []) refl
+    rows_at 1 _ (row_of c.before.before.before) (is_one x.args.r k.from-rows.ensures c.if-rows-lt2.true) (λ i. s0.leading-s0.ensures i ∷ none ∷ none ∷ none ∷ []) refl
 
 pub returns-then-rows-lt3 : goal.returns-then-rows-lt3
 unfolding used
@@ -40,7 +40,7 @@ returns-then-rows-lt3 c =
     let s0 = s1.before.before in
     let k = s0.before in
     let x = k.before in
-    rows_at 2 _ (row_of c.before.before.before.before.before) (exactly 2 k.number-rows.ensures s1.if-rows-lt2.false c.if-rows-lt3.true)
+    rows_at 2 _ (row_of c.before.before.before.before.before) (exactly 2 k.from-rows.ensures s1.if-rows-lt2.false c.if-rows-lt3.true)
     (λ i. s0.leading-s0.ensures i ∷ s1.leading-s1.ensures i ∷ none ∷ none ∷ []) refl
 
 pub returns-then-rows-lt4 : goal.returns-then-rows-lt4
@@ -51,7 +51,7 @@ returns-then-rows-lt4 c =
     let s0 = s1.before.before in
     let k = s0.before in
     let x = k.before in
-    rows_at 3 _ (row_of c.before.before.before.before.before.before.before) (exactly 3 k.number-rows.ensures s2.if-rows-lt3.false c.if-rows-lt4.true)
+    rows_at 3 _ (row_of c.before.before.before.before.before.before.before) (exactly 3 k.from-rows.ensures s2.if-rows-lt3.false c.if-rows-lt4.true)
     (λ i. s0.leading-s0.ensures i ∷ s1.leading-s1.ensures i ∷ s2.leading-s2.ensures i ∷ none ∷ []) refl
 
 pub returns : goal.returns
@@ -62,5 +62,5 @@ returns c =
     let s0 = s1.before.before in
     let k = s0.before in
     let x = k.before in
-    rows_at 4 _ (row_of c.before.before.before.before.before.before.before.before) (is_four x.args.r k.number-rows.ensures c.if-rows-lt4.false)
+    rows_at 4 _ (row_of c.before.before.before.before.before.before.before.before) (is_four x.args.r k.from-rows.ensures c.if-rows-lt4.false)
     (λ i. s0.leading-s0.ensures i ∷ s1.leading-s1.ensures i ∷ s2.leading-s2.ensures i ∷ c.leading-s3.ensures i ∷ []) refl

@@ -1,7 +1,7 @@
 -- `matrix_identity` meets its contract.
 use mathlib.Core.Path.{refl}
 use Rattle.algebra.proofs.Matrices.{shape-identity}
-use Rattle.c_slices.proofs.Ways.{one_of, matrix-handed, refuses}
+use Rattle.c_slices.proofs.Ways.{one_of, matrix-handed}
 use Rattle.c_matrix.proofs.cells.matrix_identity.Goals as goal
 
 pub returns-then-is_matrix : goal.returns-then-is_matrix
@@ -9,6 +9,3 @@ returns-then-is_matrix c =
     let a = c.args in
     let w = one_of a.n a.n a.out.now c.is_matrix.ensures c.if-is_matrix.true in
     matrix-handed w.is w.rows w refl (shape-identity _) c.identity.ensures c.give_matrix.ensures
-
-pub returns-else-is_matrix : goal.returns-else-is_matrix
-returns-else-is_matrix c = refuses _ _ c.is_matrix.ensures c.if-is_matrix.false

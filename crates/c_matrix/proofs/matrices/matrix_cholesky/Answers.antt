@@ -8,23 +8,23 @@ use Rattle.sizes.specs.Size.{count}
 use Rattle.sizes.proofs.Sizes.{bounds, bounds_of}
 use Rattle.c_slices.specs.Slices.{rows}
 use Rattle.c_matrix.proofs.Products.{rows_in}
-use Rattle.c_slices.proofs.Ways.{Two, two_of, rows_at, answer-handed, if_refuses}
+use Rattle.c_slices.proofs.Ways.{Two, two_of, rows_at, answer-handed}
 use Rattle.c_matrix.proofs.matrices.matrix_cholesky.Lts as lts
 use Rattle.c_matrix.proofs.matrices.matrix_cholesky.Tie as tie
 use Rattle.c_matrix.proofs.matrices.matrix_cholesky.Reads as reads
 use Rattle.c_matrix.proofs.matrices.matrix_cholesky.Goals as goal
 
-abbrev Then-are_two_matrices : Type 0
-Then-are_two_matrices = lts.Then1 tie.the-claims reads.Pre reads.Post
+abbrev Then-whole : Type 0
+Then-whole = lts.Then1 tie.the-claims reads.Pre reads.Post
 
 -- the two slices, whole
-whole : (t : Then-are_two_matrices) → let a = t.args in Two a.n a.n a.a.now a.n a.n a.out.now
+whole : (t : Then-whole) → let a = t.args in Two a.n a.n a.a.now a.n a.n a.out.now
 whole t =
     let a = t.args in
-    two_of a.n a.n a.a.now a.n a.n a.out.now t.are_two_matrices.ensures t.if-are_two_matrices.true
+    two_of a.n a.n a.a.now a.n a.n a.out.now t.is_matrix.ensures t.is_matrix-2.ensures t.if-whole.true
 
-pub returns-then-are_two_matrices : goal.returns-then-are_two_matrices
-returns-then-are_two_matrices c =
+pub returns-then-whole : goal.returns-then-whole
+returns-then-whole c =
     let w = whole c.before.before.before.before.before.before.before.before.before.before.before.before in
     let a = c.args in
     let N = rows_at w.first c.size_of-s.ensures in
@@ -37,8 +37,5 @@ returns-then-are_two_matrices c =
 pub overflow_mul-n : goal.overflow_mul-n
 overflow_mul-n c = omega (arith, bounds_of _ (whole c.before.before.before.before).first.rows)
 
-pub overflow_mul-n-then-are_two_matrices : goal.overflow_mul-n-then-are_two_matrices
-overflow_mul-n-then-are_two_matrices c = omega (arith, bounds_of _ (whole c.before.before.before.before.before).first.rows)
-
-pub returns-else-are_two_matrices : goal.returns-else-are_two_matrices
-returns-else-are_two_matrices c = if_refuses _ _ c.are_two_matrices.ensures c.if-are_two_matrices.false
+pub overflow_mul-n-then-whole : goal.overflow_mul-n-then-whole
+overflow_mul-n-then-whole c = omega (arith, bounds_of _ (whole c.before.before.before.before.before).first.rows)

@@ -5,20 +5,20 @@ use Rattle.algebra.specs.Inverse.{inv}
 use Rattle.algebra.proofs.Inverses.{inv-shape}
 use Rattle.small_inverse.specs.Two.{inv_number}
 use Rattle.small_inverse.proofs.Two.{number_is}
-use Rattle.c_slices.proofs.Ways.{Two, two_of, rows_at, matrix_in_lem, answer-handed, one-long, number-answered, if_refuses}
+use Rattle.c_slices.proofs.Ways.{Two, two_of, rows_at, matrix_in_lem, answer-handed, one-long, number-answered}
 use Rattle.c_matrix.proofs.matrices.matrix_inv.Lts as lts
 use Rattle.c_matrix.proofs.matrices.matrix_inv.Tie as tie
 use Rattle.c_matrix.proofs.matrices.matrix_inv.Reads as reads
 use Rattle.c_matrix.proofs.matrices.matrix_inv.Goals as goal
 
-abbrev Then-are_two_matrices : Type 0
-Then-are_two_matrices = lts.Then1 tie.the-claims reads.Pre reads.Post
+abbrev Then-whole : Type 0
+Then-whole = lts.Then1 tie.the-claims reads.Pre reads.Post
 
 -- the two slices, whole
-whole : (t : Then-are_two_matrices) → let a = t.args in Two a.n a.n a.a.now a.n a.n a.out.now
+whole : (t : Then-whole) → let a = t.args in Two a.n a.n a.a.now a.n a.n a.out.now
 whole t =
     let a = t.args in
-    two_of a.n a.n a.a.now a.n a.n a.out.now t.are_two_matrices.ensures t.if-are_two_matrices.true
+    two_of a.n a.n a.a.now a.n a.n a.out.now t.is_matrix.ensures t.is_matrix-2.ensures t.if-whole.true
 
 pub give_number-requires : goal.give_number-requires
 give_number-requires c = one-long (whole c.before.before.before.before.before).last c.if-n-eq1.true
@@ -38,6 +38,3 @@ returns-else-n-eq1 c =
 
 pub bounds-a-0 : goal.bounds-a-0
 bounds-a-0 c = omega (arith, one-long (whole c.before.before.before.before).first c.if-n-eq1.true)
-
-pub returns-else-are_two_matrices : goal.returns-else-are_two_matrices
-returns-else-are_two_matrices c = if_refuses _ _ c.are_two_matrices.ensures c.if-are_two_matrices.false

@@ -1,7 +1,7 @@
 -- `put_product` meets its contract: the loop places the rows of the product one after another.
 use mathlib.Core.Path.{◌≡◌, refl, sym, ap, ap₂, ◌∙◌}
 use mathlib.Core.List.{List}
-use Prim.Native.Nat.{ℕ, ◌*◌, ◌-◌, ◌<◌, ◌≤◌}
+use Prim.Native.Nat.{ℕ, ◌*◌, ◌<◌, ◌≤◌}
 use native.Mathlib.Nat.{mul-le-mul}
 use native.Mathlib.Omega.{arith}
 use lib.Ieee.{Float}
@@ -30,44 +30,44 @@ row-place r c {i} {h} {w} l d e =
 
 pub loop-i-init : goal.loop-i-init
 loop-i-init c =
-    let all = ap₂ (λ (r c : ℕ). r * c) c.number-height.ensures c.number-width.ensures in
-    putting_none _ _ _ _ _ (omega (arith, c.requires.0, all)) (λ j. length-table _ _ ∙ sym c.number-width.ensures)
+    let all = ap₂ (λ (r c : ℕ). r * c) c.from-height.ensures c.from-width.ensures in
+    putting_none _ _ _ _ _ (omega (arith, c.requires.0, all)) (λ j. length-table _ _ ∙ sym c.from-width.ensures)
 
 pub loop-i-preserved : goal.loop-i-preserved
 loop-i-preserved c =
     let a = c.args in
     let less = c.loop-i-test.true in
-    let v = row_in c.number-height.result (count a.k) a.a.now c.loop-i.i _ less (bounds a.k) (c.requires.1 ∙ ap (λ (r : ℕ). r * count a.k) (sym c.number-height.ensures))
-    (ap (λ (k : ℕ). c.loop-i.i * k) c.number-inner.ensures) c.vector_at-v.ensures in
+    let v = row_in c.from-height.result (count a.k) a.a.now c.loop-i.i _ less (bounds a.k) (c.requires.1 ∙ ap (λ (r : ℕ). r * count a.k) (sym c.from-height.ensures))
+    (ap (λ (k : ℕ). c.loop-i.i * k) c.from-inner.ensures) c.vector_at-v.ensures in
     let room = putting_room c.loop-i.invariant less in
-    putting_more (c.loop-i.i * c.number-width.result) c.loop-i.invariant less (omega arith)
-    (vector-put _ c.loop-i.out _ refl (omega (arith, room, c.number-width.ensures)) c.put_vector.ensures
-    ∙ ap (λ (l : List Float). placed (c.loop-i.i * c.number-width.result) l c.loop-i.out) (product-row _ v (bounds a.c) refl c.combination-p.ensures))
+    putting_more (c.loop-i.i * c.from-width.result) c.loop-i.invariant less (omega arith)
+    (vector-put _ c.loop-i.out _ refl (omega (arith, room, c.from-width.ensures)) c.put_vector.ensures
+    ∙ ap (λ (l : List Float). placed (c.loop-i.i * c.from-width.result) l c.loop-i.out) (product-row _ v (bounds a.c) refl c.combination-p.ensures))
 
 pub returns : goal.returns
 unfolding mul
 returns c =
     let a = c.args in
-    let B = rows_in (count a.k) (count a.c) _ a.b.now (bounds a.k).most c.number-width.ensures c.requires.2
+    let B = rows_in (count a.k) (count a.c) _ a.b.now (bounds a.k).most c.from-width.ensures c.requires.2
     c.vector_at-b0.ensures c.vector_at-b1.ensures c.vector_at-b2.ensures c.vector_at-b3.ensures in
     putting_all c.loop-i.invariant (omega arith)
-    ∙ (λ i. placed 0 (joined (mul (c.number-height.ensures i) (count a.k) (count a.c) (matrix_at (c.number-height.ensures i) (count a.k) a.a.now 0) (B i))) a.out.now)
+    ∙ (λ i. placed 0 (joined (mul (c.from-height.ensures i) (count a.k) (count a.c) (matrix_at (c.from-height.ensures i) (count a.k) a.a.now 0) (B i))) a.out.now)
     ∙ placed-whole (product_in (count a.r) (count a.k) (count a.c) a.a.now a.b.now) a.out.now
     (length-rows (count a.r) (count a.c) _ (shape-mul _ (count a.k) _ (rows (count a.r) (count a.k) a.a.now) (rows (count a.k) (count a.c) a.b.now)) ∙ sym c.requires.0)
 
 pub overflow_mul-width : goal.overflow_mul-width
-overflow_mul-width c = omega (arith, c.number-width.ensures, bounds c.args.c)
+overflow_mul-width c = omega (arith, c.from-width.ensures, bounds c.args.c)
 
 pub overflow_mul-width-2 : goal.overflow_mul-width-2
-overflow_mul-width-2 c = omega (arith, c.number-width.ensures, bounds c.args.c)
+overflow_mul-width-2 c = omega (arith, c.from-width.ensures, bounds c.args.c)
 
 pub overflow_mul-i : goal.overflow_mul-i
 overflow_mul-i c = let a = c.args in
-    omega (arith, row-place a.r a.k c.loop-i-test.true c.number-height.ensures c.number-inner.ensures)
+    omega (arith, row-place a.r a.k c.loop-i-test.true c.from-height.ensures c.from-inner.ensures)
 
 pub overflow_mul-i-in-loop-i : goal.overflow_mul-i-in-loop-i
 overflow_mul-i-in-loop-i c = let a = c.args in
-    omega (arith, row-place a.r a.c c.loop-i-test.true c.number-height.ensures c.number-width.ensures)
+    omega (arith, row-place a.r a.c c.loop-i-test.true c.from-height.ensures c.from-width.ensures)
 
 pub overflow_step-i : goal.overflow_step-i
 overflow_step-i c = omega (arith, bounds c.args.r)

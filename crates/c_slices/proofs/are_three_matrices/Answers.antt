@@ -1,5 +1,0 @@
--- `are_three_matrices` meets its contract.
-use Rattle.c_slices.proofs.are_three_matrices.Goals as goal
-
-pub returns : goal.returns
-returns c = cc
