@@ -1,11 +1,12 @@
 // The library's functions by value behind C names, for compare/bench: whole arrays behind pointers, no slices to read
-// or to test. What is timed is the function that Rattle code calls.
+// or to test. What is timed is the function that Rattle code calls; where it refuses, all is +0.
 #![tactic(auto)]
 
-ghost use Rattle.std.specs.Prelude.{◌≡◌};
-ghost use Rattle.answer.specs.Answer.{where_sized, if_sized};
+ghost use Rattle.std.specs.Prelude.{◌≡◌, []};
+ghost use Rattle.std.specs.Result.{result_unwrap_or};
+ghost use Rattle.answer.specs.Answer.{where_sized, if_sized, mapped};
 ghost use Rattle.algebra.specs.Matrix.{mul};
-ghost use Rattle.algebra.specs.Array.{used};
+ghost use Rattle.algebra.specs.Array.{used, pad, pad_row};
 ghost use Rattle.sizes.specs.Size.{sized, chained};
 ghost use Rattle.matrix.specs.Result.{as_matrix};
 ghost use Rattle.algebra.specs.Inverse.{inv};
@@ -23,26 +24,23 @@ pub extern "C" fn bench_matmul(
     b: &[[f64; 4]; 4],
     out: &mut [[f64; 4]; 4],
 )
-    ensures { out.new ≡ (as_matrix (where_sized (chained n n n n) (mul n n n (used n n a.now) (used n n b.now)))).rows }
+    ensures { out.new ≡ result_unwrap_or (as_matrix (where_sized (chained n n n n) (mul n n n (used n n a.now) (used n n b.now)))) (pad []) }
 {
-    let m = matrix::matmul(*a, n, n, *b, n, n);
-    *out = matrix::rows_of(m);
+    *out = matrix::matmul(*a, n, n, *b, n, n).unwrap_or([[0.0; 4]; 4]);
 }
 
 #[unsafe(no_mangle)]
 pub extern "C" fn bench_inv(n: usize, a: &[[f64; 4]; 4], out: &mut [[f64; 4]; 4])
-    ensures { out.new ≡ (as_matrix (if_sized (sized n) (inv n (used n n a.now)))).rows }
+    ensures { out.new ≡ result_unwrap_or (as_matrix (if_sized (sized n) (inv n (used n n a.now)))) (pad []) }
 {
-    let m = inverse::inv(*a, n);
-    *out = matrix::rows_of(m);
+    *out = inverse::inv(*a, n).unwrap_or([[0.0; 4]; 4]);
 }
 
 #[unsafe(no_mangle)]
 pub extern "C" fn bench_cholesky(n: usize, a: &[[f64; 4]; 4], out: &mut [[f64; 4]; 4])
-    ensures { out.new ≡ (as_matrix (if_sized (sized n) (cholesky n (used n n a.now)))).rows }
+    ensures { out.new ≡ result_unwrap_or (as_matrix (if_sized (sized n) (cholesky n (used n n a.now)))) (pad []) }
 {
-    let m = cholesky::cholesky(*a, n);
-    *out = matrix::rows_of(m);
+    *out = cholesky::cholesky(*a, n).unwrap_or([[0.0; 4]; 4]);
 }
 
 fn steps(
@@ -57,10 +55,7 @@ fn steps(
 {
     let mut g = f;
     for k in 0..times {
-        let s = g.predict(u, i);
-        let p = s.filter;
-        let t = p.update(z, m);
-        g = t.filter;
+        g = g.predict(u, i).left.update(z, m).left;
     }
     g
 }
@@ -83,13 +78,12 @@ pub extern "C" fn bench_steps(
     times: usize,
     out: &mut [f64; 4],
 )
-    ensures { out.new ≡ (steps_of times
+    ensures { out.new ≡ result_unwrap_or (mapped (λ f. (steps_of times f u.now i z.now m).x)
         (new_of (motion_from n i a.now b.now q.now) (sensor_from n m h.now r.now)
-        (estimate_from n x.now p.now)).filter u.now i z.now m).x }
+        (estimate_from n x.now p.now))) (pad_row []) }
 {
-    let s = KalmanFilter::new(n, m, i, *a, *b, *h, *q, *r, *x, *p);
-    let f = s.filter;
-    let g = steps(f, *u, i, *z, m, times);
-    let state = g.x;
-    *out = state;
+    *out = match KalmanFilter::new(n, m, i, *a, *b, *h, *q, *r, *x, *p) {
+        Ok(f) => steps(f, *u, i, *z, m, times).x,
+        Err(_) => [0.0; 4],
+    };
 }

@@ -1,6 +1,6 @@
 -- The factorization, one cell of a row and one row at a time. Assumes nothing.
 use mathlib.Core.Path.{◌≡◌, refl, sym, ap, ◌∙◌, subst⁻¹}
-use mathlib.Core.Bool.{Bool, true, false, cond}
+use mathlib.Core.Bool.{cond}
 use mathlib.Core.List.{List, [], ◌∷◌, ◌++◌}
 use Prim.Native.Nat.{ℕ, ◌+◌, ◌≤◌, ◌<◌}
 use native.Mathlib.Decide.{le_ind}
@@ -10,20 +10,19 @@ use lib.ListN.{length, set, replicate, length-append}
 use lib.Dec.{eqb}
 use lib.Ieee.{Float, nan}
 use Rattle.scalar.specs.Number.{◌⊖◌, ◌⊘◌, +0}
-use Rattle.answer.specs.Answer.{Answer, refused, answered, and_then, mapped}
+use Rattle.std.specs.Prelude.{Ok, Err}
+use Rattle.answer.specs.declared.Refusal.{Refusal}
+use Rattle.answer.specs.Answer.{Answer, and_then, mapped}
 use Rattle.answer.specs.Table.{table, pad_to}
 use Rattle.algebra.specs.Matrix.{Vector, Matrix, at, row, cell, dot}
 use Rattle.algebra.specs.Array.{used, pad_row, pad}
 use Rattle.answer.proofs.Tables.{table-get_or, get_or-pad_to, set-pad_to, pad_to-pad_to, length-pad_to}
 use Rattle.algebra.proofs.Matrices.{Shape}
 use Rattle.algebra.proofs.Vectors.{dot_ext}
-use Rattle.root.specs.Root.{root}
-use Rattle.answer.proofs.Answers.{if_true, if_false}
-use Rattle.algebra.specs.Cholesky.{no_diagonal, diagonal_of, left_cells, factor_row, factor_rows, cholesky}
+use Rattle.answer.proofs.Answers.{same_answer, mapped-refused}
+use Rattle.algebra.specs.Cholesky.{diagonal_of, left_cells, factor_row, factor_rows, cholesky}
 use Rattle.algebra.proofs.Arrays.{set-pad, cell-pad}
-use Rattle.answer.specs.declared.Status.TheVariants.{Done, Refused}
-use Rattle.matrix.specs.declared.MatrixResult.{MatrixResult}
-use Rattle.matrix.specs.Result.{matrix_result, as_matrix}
+use Rattle.matrix.specs.Result.{as_matrix}
 use Rattle.rows.proofs.Kernels.{row-with}
 use Rattle.algebra.proofs.Factors.{length-left, left_ext, shape-rows, cholesky-used}
 
@@ -55,11 +54,12 @@ pub left-none : (a : Vector) (L : Matrix) → replicate 4 +0 ≡ pad_row (left_c
 unfolding left_cells
 left-none a L = refl
 
-pub left-more : (a : Vector) (L : Matrix) (j : ℕ) {s : Float} {v r : List Float} → j < 4 → v ≡ pad_row (left_cells a L j) → s ≡ dot j v (row L j)
-    → r ≡ table 4 (λ t. cond (eqb j t) ((at a j ⊖ s) ⊘ cell L j j) (at v t)) → r ≡ pad_row (left_cells a L (j + 1))
+pub left-more : (a : Vector) (L : Matrix) (j : ℕ) {v r : List Float} → j < 4 → v ≡ pad_row (left_cells a L j)
+    → r ≡ table 4 (λ t. cond (eqb j t) ((at a j ⊖ dot j v (row L j)) ⊘ cell L j j) (at v t)) → r ≡ pad_row (left_cells a L (j + 1))
 unfolding left_cells
-left-more a L j {s} {v} h e d p =
-    let same : s ≡ dot j (left_cells a L j) (row L j) = d ∙ ap (λ (u : Vector). dot j u (row L j)) e ∙ dot_ext j _ _ _ _ (λ t g. at_pad_row a L j t g) (λ t g. refl) in
+left-more a L j {v} h e p =
+    let same : dot j v (row L j) ≡ dot j (left_cells a L j) (row L j) =
+    ap (λ (u : Vector). dot j u (row L j)) e ∙ dot_ext j _ _ _ _ (λ t g. at_pad_row a L j t g) (λ t g. refl) in
     put_next a L j _ h e (p ∙ ap (λ (y : Float). table 4 (λ t. cond (eqb j t) ((at a j ⊖ y) ⊘ cell L j j) (at v t))) same)
     ∙ ap (λ (k : ℕ). pad_row (left_cells a L k)) (sym (add-one j))
 
@@ -70,16 +70,16 @@ pub record Factoring (n : ℕ) (a : Matrix) (i : ℕ) (l : List (List Float)) : 
   pub most : n ≤ 4
   pub within : i ≤ n
   pub rows : Matrix
-  pub so_far : factor_rows n a i ≡ answered rows
+  pub so_far : factor_rows n a i ≡ Ok rows
   pub is : l ≡ pad rows
 
 pub factoring_none : (n : ℕ) (a : Matrix) → n ≤ 4 → Factoring n a 0 (replicate 4 (replicate 4 +0))
 unfolding factor_rows pad
 factoring_none n a h = record { most = h; within = omega arith; rows = []; so_far = refl; is = refl }
 
--- A turn: v is row i left of its diagonal as the code makes it from the array, and s the sum of its squares
+-- A turn: v is row i left of its diagonal as the code makes it from the array
 module _ {n : ℕ} {a : Matrix} {i : ℕ} {l : List (List Float)} (e : Factoring n a i l) (hi : i < n)
-    {v : List Float} {s : Float} (p : v ≡ pad_row (left_cells (row a i) l i)) (q : s ≡ dot i v v) where
+    {v : List Float} (p : v ≡ pad_row (left_cells (row a i) l i)) where
   abbrev L : Matrix
   L = e.rows
 
@@ -95,16 +95,16 @@ module _ {n : ℕ} {a : Matrix} {i : ℕ} {l : List (List Float)} (e : Factoring
       ∙ ap (λ (m : Matrix). pad_row (left_cells (row a i) m i)) e.is
       ∙ ap pad_row (left_ext (row a i) (row a i) (pad L) L i (λ j h. refl) (λ j k h g. cell-pad i n L j k shape h (omega arith)))
 
-  same_sum : s ≡ dot i left left
+  same_sum : dot i v v ≡ dot i left left
   same_sum =
       let at_left = at_pad_row (row a i) L i in
-      q ∙ ap (λ (u : Vector). dot i u u) same_left ∙ dot_ext i (pad_row left) (pad_row left) left left at_left at_left
+      ap (λ (u : Vector). dot i u u) same_left ∙ dot_ext i (pad_row left) (pad_row left) left left at_left at_left
 
   -- the first i + 1 rows, from what is answered for the diagonal
   abbrev and_row : Answer Float → Answer Matrix
   and_row o = mapped (λ r. L ++ r ∷ []) (mapped (λ x. pad_to n +0 (left ++ x ∷ [])) o)
 
-  next : {o : Answer Float} → diagonal_of (cell a i i ⊖ s) ≡ o → factor_rows n a (i + 1) ≡ and_row o
+  next : {o : Answer Float} → diagonal_of (cell a i i ⊖ dot i v v) ≡ o → factor_rows n a (i + 1) ≡ and_row o
   unfolding factor_rows factor_row
   next d =
       ap (factor_rows n a) (add-one i)
@@ -112,7 +112,7 @@ module _ {n : ℕ} {a : Matrix} {i : ℕ} {l : List (List Float)} (e : Factoring
       ∙ ap (λ (x : Float). and_row (diagonal_of (cell a i i ⊖ x))) (sym same_sum)
       ∙ ap and_row d
 
-  factoring_more : {x : Float} {r : List Float} → diagonal_of (cell a i i ⊖ s) ≡ answered x → r ≡ table 4 (λ j. cond (eqb i j) x (at v j)) → Factoring n a (i + 1) (set l i r)
+  factoring_more : {x : Float} {r : List Float} → diagonal_of (cell a i i ⊖ dot i v v) ≡ Ok x → r ≡ table 4 (λ j. cond (eqb i j) x (at v j)) → Factoring n a (i + 1) (set l i r)
   factoring_more {x} d p =
       let w = left ++ x ∷ [] in
       let r = pad_to n +0 w in
@@ -130,14 +130,14 @@ module _ {n : ℕ} {a : Matrix} {i : ℕ} {l : List (List Float)} (e : Factoring
       }
 
   -- a refusal stands
-  factoring_refused : {k : ℕ} → diagonal_of (cell a i i ⊖ s) ≡ refused k → cholesky n a ≡ refused k
+  factoring_refused : {k : Refusal} → diagonal_of (cell a i i ⊖ dot i v v) ≡ Err k → cholesky n a ≡ Err k
   unfolding cholesky factor_rows
   factoring_refused {k} d =
-      le_ind {n = i + 1} (λ m. factor_rows n a m ≡ refused k) (next d)
+      le_ind {n = i + 1} (λ m. factor_rows n a m ≡ Err k) (next d)
       (λ m h r. ap (λ (f : Answer Matrix). and_then f (λ M. mapped (λ u. M ++ u ∷ []) (factor_row n (row a m) M m))) r)
       n (omega arith)
 
-factoring_all : {n : ℕ} {a : Matrix} {i : ℕ} {l : List (List Float)} (e : Factoring n a i l) → n ≤ i → cholesky n a ≡ answered e.rows
+factoring_all : {n : ℕ} {a : Matrix} {i : ℕ} {l : List (List Float)} (e : Factoring n a i l) → n ≤ i → cholesky n a ≡ Ok e.rows
 unfolding cholesky
 factoring_all {n} {a} {i} e h = let same : n ≡ i = omega arith in ap (factor_rows n a) same ∙ e.so_far
 
@@ -145,24 +145,19 @@ factoring_all {n} {a} {i} e h = let same : n ≡ i = omega arith in ap (factor_r
 factor_at : {n k : ℕ} (a : Matrix) {o : Answer Matrix} → n ≡ k → cholesky n a ≡ o → as_matrix (cholesky k (used k k a)) ≡ as_matrix o
 factor_at {n} {k} a e p = ap as_matrix (cholesky-used k a ∙ ap (λ (m : ℕ). cholesky m a) (sym e) ∙ p)
 
-pub all_told : {n k i : ℕ} {a : Matrix} {l : List (List Float)} {r : MatrixResult} (e : Factoring n a i l) → n ≤ i → n ≡ k → r ≡ matrix_result Done l
-    → r ≡ as_matrix (cholesky k (used k k a))
-all_told {a = a} e h same p = p ∙ ap (matrix_result Done) e.is ∙ sym (factor_at a same (factoring_all e h))
+pub all_told : {n k i : ℕ} {a : Matrix} {l : List (List Float)} (e : Factoring n a i l) → n ≤ i → n ≡ k → Ok l ≡ as_matrix (cholesky k (used k k a))
+all_told {a = a} e h same = ap Ok e.is ∙ sym (factor_at a same (factoring_all e h))
 
--- ---- a row as the code makes it: v has its cells left of the diagonal, s the sum of their squares, and t is the test of its diagonal
-pub record Row (n : ℕ) (a : Matrix) (i : ℕ) (l : List (List Float)) (v : List Float) (s : Float) (t : Bool) : Type 0 where
-  pub so_far : Factoring n a i l
-  pub more : i < n
-  pub left_is : v ≡ pad_row (left_cells (row a i) l i)
-  pub sum_is : s ≡ dot i v v
-  pub test_is : t ≡ no_diagonal (cell a i i ⊖ s)
+-- ---- a row as the code makes it: v has its cells left of the diagonal, and o is what is told of the row with its diagonal
+was_made : {A B : Type 0} (g : A → B) (o : Answer A) {r : B} → mapped g o ≡ Ok r → (x : A) × (o ≡ Ok x) × (r ≡ g x)
+was_made g (Err k) q = cc
+was_made g (Ok x) q = (x, refl, same_answer (sym q))
 
-module _ {n : ℕ} {a : Matrix} {i : ℕ} {l : List (List Float)} {v : List Float} {s : Float} {t : Bool} (u : Row n a i l v s t) where
-  pub row_made : {x : Float} {r : List Float} → t ≡ false → x ≡ root (cell a i i ⊖ s) → r ≡ table 4 (λ j. cond (eqb i j) x (at v j))
-      → Factoring n a (i + 1) (set l i r)
-  unfolding diagonal_of
-  row_made h p q = factoring_more u.so_far u.more u.left_is u.sum_is (if_false _ _ (sym u.test_is ∙ h) ∙ ap answered (sym p)) q
+module _ {n : ℕ} {a : Matrix} {i : ℕ} {l : List (List Float)} {v : List Float} {o : Answer (List Float)} (e : Factoring n a i l) (more : i < n)
+    (left_is : v ≡ pad_row (left_cells (row a i) l i))
+    (made : o ≡ mapped (λ x. table 4 (λ j. cond (eqb i j) x (at v j))) (diagonal_of (cell a i i ⊖ dot i v v))) where
+  pub row_made : {r : List Float} → o ≡ Ok r → Factoring n a (i + 1) (set l i r)
+  row_made q = let x = was_made _ _ (sym made ∙ q) in factoring_more e more left_is x.1 x.2
 
-  pub row-refused : {k : ℕ} {r : MatrixResult} → t ≡ true → n ≡ k → r ≡ matrix_result (Refused 4) (pad []) → r ≡ as_matrix (cholesky k (used k k a))
-  unfolding diagonal_of
-  row-refused h same p = p ∙ sym (factor_at a same (factoring_refused u.so_far u.more u.left_is u.sum_is (if_true _ _ (sym u.test_is ∙ h))))
+  pub row-refused : {j : Refusal} {k : ℕ} → o ≡ Err j → n ≡ k → Err j ≡ as_matrix (cholesky k (used k k a))
+  row-refused q same = sym (factor_at a same (factoring_refused e more left_is (mapped-refused _ _ _ (sym made ∙ q))))

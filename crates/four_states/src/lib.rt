@@ -1,11 +1,11 @@
-// Four states, written out, with four measurements or two: the parts of a step by the same kernels as for any size. With the sizes
-// at hand a compiler leaves out their tests and takes two numbers at a time; so a product of matrices is stored here.
+// Four states, written out, with four measurements or two: the parts of a step that store a product of matrices. With the sizes
+// at hand a compiler leaves out their tests and takes two numbers at a time, which is quicker than row by row.
 #![tactic(auto)]
 
 ghost use Rattle.std.specs.Prelude.{◌≡◌};
-ghost use Rattle.algebra.specs.Matrix.{matvec, vec_add, mul, add, transpose};
-ghost use Rattle.algebra.specs.Array.{pad_row, pad, cut, used};
-ghost use Rattle.filtering.specs.Filter.{propagated as propagated_of, innovation as innovation_of, gain as gain_of, corrected_state, corrected_covariance};
+ghost use Rattle.algebra.specs.Matrix.{mul, add, transpose};
+ghost use Rattle.algebra.specs.Array.{pad, used};
+ghost use Rattle.filtering.specs.Filter.{propagated as propagated_of, gain as gain_of, corrected_covariance};
 
 use sizes::Size;
 
@@ -35,20 +35,6 @@ fn spread<'a>(s: &'a [[f64; 4]; 4], a: &'a [[f64; 4]; 4], q: &'a [[f64; 4]; 4]) 
     [r0, r1, r2, r3]
 }
 
-// A x + B u, for two inputs
-pub fn predicted_state<'a>(
-    a: &'a [[f64; 4]; 4],
-    b: &'a [[f64; 4]; 4],
-    x: &'a [f64; 4],
-    u: &'a [f64; 4],
-) -> [f64; 4]
-    ensures { result ≡ pad_row (vec_add 4 (matvec 4 4 (used 4 4 a.now) (cut 4 x.now)) (matvec 4 2 (used 4 2 b.now) (cut 2 u.now))) }
-{
-    let ax = rows::row_product_transposed(*x, a, Size::Four);
-    let bu = rows::row_product_transposed(*u, b, Size::Two);
-    rows::leading(rows::row_sum(ax, bu), Size::Four)
-}
-
 // A P Aᵀ + Q, for an A of four rows
 pub fn propagated<'a>(
     a: &'a [[f64; 4]; 4],
@@ -58,46 +44,6 @@ pub fn propagated<'a>(
     ensures { result ≡ pad (propagated_of 4 4 (used 4 4 a.now) (used 4 4 p.now) (used 4 4 q.now)) }
 {
     spread(&product(a, p), a, q)
-}
-
-// A P Aᵀ + Q, for an A of two rows
-pub fn propagated_two<'a>(
-    a: &'a [[f64; 4]; 4],
-    p: &'a [[f64; 4]; 4],
-    q: &'a [[f64; 4]; 4],
-) -> [[f64; 4]; 4]
-    ensures { result ≡ pad (propagated_of 2 4 (used 2 4 a.now) (used 4 4 p.now) (used 2 2 q.now)) }
-{
-    let ap0 = rows::row_product(a[0], p, Size::Four);
-    let ap1 = rows::row_product(a[1], p, Size::Four);
-    let s0 = rows::row_sum(rows::row_product_transposed(ap0, a, Size::Four), q[0]);
-    let s1 = rows::row_sum(rows::row_product_transposed(ap1, a, Size::Four), q[1]);
-    let r0 = rows::leading(s0, Size::Two);
-    let r1 = rows::leading(s1, Size::Two);
-    [r0, r1, [0.0; 4], [0.0; 4]]
-}
-
-// z - H x, for an H of two rows
-pub fn innovation<'a>(h: &'a [[f64; 4]; 4], x: &'a [f64; 4], z: &'a [f64; 4]) -> [f64; 4]
-    ensures { result ≡ pad_row (innovation_of 2 4 (used 2 4 h.now) (cut 4 x.now) (cut 2 z.now)) }
-{
-    let hx = rows::row_product_transposed(*x, h, Size::Four);
-    rows::leading(rows::row_difference(*z, hx), Size::Two)
-}
-
-// P Hᵀ × W, for an H of two rows
-pub fn gain<'a>(p: &'a [[f64; 4]; 4], h: &'a [[f64; 4]; 4], w: &'a [[f64; 4]; 4]) -> [[f64; 4]; 4]
-    ensures { result ≡ pad (gain_of 4 2 (used 4 4 p.now) (used 2 4 h.now) (used 2 2 w.now)) }
-{
-    let s0 = rows::row_product_transposed(p[0], h, Size::Four);
-    let s1 = rows::row_product_transposed(p[1], h, Size::Four);
-    let s2 = rows::row_product_transposed(p[2], h, Size::Four);
-    let s3 = rows::row_product_transposed(p[3], h, Size::Four);
-    let r0 = rows::leading(rows::row_product(s0, w, Size::Two), Size::Two);
-    let r1 = rows::leading(rows::row_product(s1, w, Size::Two), Size::Two);
-    let r2 = rows::leading(rows::row_product(s2, w, Size::Two), Size::Two);
-    let r3 = rows::leading(rows::row_product(s3, w, Size::Two), Size::Two);
-    [r0, r1, r2, r3]
 }
 
 // P Hᵀ × W, for an H of four rows
@@ -113,14 +59,6 @@ pub fn gain_four<'a>(
     let s2 = rows::row_product_transposed(p[2], h, Size::Four);
     let s3 = rows::row_product_transposed(p[3], h, Size::Four);
     product(&[s0, s1, s2, s3], w)
-}
-
-// x + K y, for two measurements
-pub fn corrected_state<'a>(k: &'a [[f64; 4]; 4], y: &'a [f64; 4], x: &'a [f64; 4]) -> [f64; 4]
-    ensures { result ≡ pad_row (corrected_state 4 2 (used 4 2 k.now) (cut 2 y.now) (cut 4 x.now)) }
-{
-    let ky = rows::row_product_transposed(*y, k, Size::Two);
-    rows::leading(rows::row_sum(*x, ky), Size::Four)
 }
 
 // (I - K H) × P, for an H of two rows

@@ -10,24 +10,23 @@ use lib.ListN.{length, set, length-set}
 use lib.Seq.{set-get_or, get_or-set_same}
 use lib.Ieee.{Float, nan}
 use Rattle.scalar.specs.Number.{◌⊘◌, one, abs}
-use Rattle.answer.specs.Answer.{Answer, refused, answered, and_then, mapped, refused_if, if_sized}
+use Rattle.std.specs.Prelude.{Ok, Err}
+use Rattle.answer.specs.declared.Refusal.{Refusal}
+use Rattle.answer.specs.declared.Refusal.TheVariants.{SingularMatrix}
+use Rattle.answer.specs.Answer.{Answer, and_then, mapped, refused_if}
 use Rattle.answer.specs.Table.{table}
 use Rattle.algebra.specs.Matrix.{Vector, Matrix, at, row, cell, identity}
 use Rattle.algebra.specs.Array.{cut, used, pad}
-use Rattle.answer.specs.declared.Status.TheVariants.{Done}
-use Rattle.matrix.specs.declared.MatrixResult.{MatrixResult}
-use Rattle.matrix.specs.Result.{matrix_result, as_matrix}
+use Rattle.matrix.specs.Result.{as_matrix}
 use Rattle.sizes.specs.declared.Size.{Size}
 use Rattle.sizes.specs.declared.Size.TheVariants.{One, Two, Three, Four}
-use Rattle.sizes.specs.Size.{count, size_of, part, sized}
-use Rattle.sizes.proofs.Sizes.{is_count}
-use Rattle.matrix.proofs.Results.{if_answered}
+use Rattle.sizes.specs.Size.{count, part}
 use Rattle.answer.proofs.Tables.{get_or-table, table_ext}
 use Rattle.algebra.proofs.Matrices.{Shape, shape-identity}
 use Rattle.algebra.proofs.Arrays.{cell-used, identity-used, used_all, used-four}
 use Rattle.algebra.specs.Inverse.{no_pivot, pivot_row, scaled_row, reduced, Augmented, ◌beside◌, exchanged, cleared, column, columns, inv}
-use Rattle.inverse.specs.Rows.{Swap, Scale, Reduce, Bring, Clear}
-use Rattle.answer.proofs.Answers.{if_true, if_false}
+use Rattle.inverse.specs.Rows.{Swap, Scale, Reduce, Bring, Clear, Swept}
+use Rattle.answer.proofs.Answers.{same_answer, if_true, if_false}
 use Rattle.algebra.proofs.Inverses.{column_ext, inv-shape}
 use Rattle.inverse.proofs.Rows.{swapped-used, scaled_used}
 
@@ -85,6 +84,35 @@ turn {c} {l} {l₂} {l₃} {r} {r₂} {r₃} {f} hl hr y y' e z z' =
       right = z'.long;
     }
 
+-- ---- column c on both arrays: its pivot was brought to the diagonal of l₁
+module _ {n c : ℕ} {l r l₁ r₁ : Matrix} (most : n ≤ 4) (h : c < n) (long : length l ≡ 4) (as_long : length r ≡ 4) (b : Bring n c l r l₁ r₁) where
+  abbrev p : ℕ
+  p = pivot_row l c (n - suc c)
+
+  pivot : cell l₁ c c ≡ cell l p c
+  pivot =
+      let there : c < length (set l p (row l c)) = omega (arith, length-set l p (row l c), long, most) in
+      ap (λ (M : Matrix). cell M c c) b.left.is ∙ ap (λ (v : Vector). at v c) (get_or-set_same (set l p (row l c)) c (row l p) [] there)
+
+  parts : (used n n l₁ beside used n n r₁) ≡ exchanged n p c (l beside r)
+  unfolding exchanged
+  parts =
+      λ k.
+      (ap (used n n) b.left.is ∙ swapped-used n l (omega (arith, long, most)) p c) k
+      beside (ap (used n n) b.right.is ∙ swapped-used n r (omega (arith, as_long, most)) p c) k
+
+  next : column n c (used n n l beside used n n r) ≡ refused_if (no_pivot (abs (cell l₁ c c))) SingularMatrix (cleared n c (used n n l₁ beside used n n r₁))
+  unfolding column
+  next =
+      column_ext n c (used n n l beside used n n r) (l beside r) h (cell-used n n l) (cell-used n n r)
+      ∙ sym (λ k. refused_if (no_pivot (abs (pivot k))) SingularMatrix (cleared n c (parts k)))
+
+  pub swept_not : no_pivot (abs (cell l₁ c c)) ≡ true → column n c (used n n l beside used n n r) ≡ Err SingularMatrix
+  swept_not t = next ∙ if_true _ _ t
+
+  pub swept : {l' r' : Matrix} → no_pivot (abs (cell l₁ c c)) ≡ false → Clear c l₁ r₁ l' r' → Swept n c l r l' r' (Ok tt)
+  swept t v = (next ∙ if_false _ _ t ∙ ap Ok (sym (v.is n most h)), v.left, v.right)
+
 -- ---- the columns
 
 -- n is m
@@ -97,7 +125,7 @@ pub record Sweeping (n : ℕ) (A : Matrix) (c : ℕ) (l r : Matrix) : Type 0 whe
   pub within : c ≤ n
   pub left : length l ≡ 4
   pub right : length r ≡ 4
-  pub is : columns n c A ≡ answered (used n n l beside used n n r)
+  pub is : columns n c A ≡ Ok (used n n l beside used n n r)
 
 pub sweeping_none : (n : ℕ) (a r : Matrix) → n ≤ 4 → r ≡ identity 4 → Sweeping n (used n n a) 0 (table 4 (λ i. row a i)) r
 unfolding columns
@@ -107,68 +135,44 @@ sweeping_none n a r four e =
       within = omega arith;
       left = refl;
       right = ap length e ∙ (shape-identity 4).rows;
-      is = sym (λ k. answered (used-four n n a four k beside (ap (used n n) e ∙ identity-used n four) k));
+      is = sym (λ k. Ok (used-four n n a four k beside (ap (used n n) e ∙ identity-used n four) k));
     }
 
 -- a refusal stands
-refused_on : (n c d : ℕ) (A : Matrix) → columns n c A ≡ refused 3 → columns n (c + d) A ≡ refused 3
+refused_on : {k : Refusal} (n c d : ℕ) (A : Matrix) → columns n c A ≡ Err k → columns n (c + d) A ≡ Err k
 unfolding columns
 refused_on n c zero A e = ap (λ (i : ℕ). columns n i A) (add-zero c) ∙ e
 refused_on n c (suc d) A e =
     ap (λ (i : ℕ). columns n i A) (add-suc c d) ∙ ap (λ (o : Answer Augmented). and_then o (λ w. column n (c + d) w)) (refused_on n c d A e)
 
--- the next column, whose pivot was brought to the diagonal of l₁
-module _ {n : ℕ} {A : Matrix} {c : ℕ} {l r l₁ r₁ : Matrix} (e : Sweeping n A c l r) (h : c < n) (b : Bring n c l r l₁ r₁) where
-  abbrev p : ℕ
-  p = pivot_row l c (n - suc c)
+module _ {n : ℕ} {A : Matrix} {c : ℕ} {l r : Matrix} (e : Sweeping n A c l r) where
+  one_more : columns n (suc c) A ≡ column n c (used n n l beside used n n r)
+  unfolding columns
+  one_more = ap (λ (o : Answer Augmented). and_then o (λ w. column n c w)) e.is
 
-  pivot : cell l₁ c c ≡ cell l p c
-  pivot =
-      let there : c < length (set l p (row l c)) = omega (arith, length-set l p (row l c), e.left, e.most) in
-      ap (λ (M : Matrix). cell M c c) b.left.is ∙ ap (λ (v : Vector). at v c) (get_or-set_same (set l p (row l c)) c (row l p) [] there)
-
-  parts : (used n n l₁ beside used n n r₁) ≡ exchanged n p c (l beside r)
-  unfolding exchanged
-  parts =
-      λ k.
-      (ap (used n n) b.left.is ∙ swapped-used n l (omega (arith, e.left, e.most)) p c) k
-      beside (ap (used n n) b.right.is ∙ swapped-used n r (omega (arith, e.right, e.most)) p c) k
-
-  next : columns n (suc c) A ≡ refused_if (no_pivot (abs (cell l₁ c c))) 3 (cleared n c (used n n l₁ beside used n n r₁))
-  unfolding columns column
-  next =
-      ap (λ (o : Answer Augmented). and_then o (λ w. column n c w)) e.is
-      ∙ column_ext n c (used n n l beside used n n r) (l beside r) h (cell-used n n l) (cell-used n n r)
-      ∙ sym (λ k. refused_if (no_pivot (abs (pivot k))) 3 (cleared n c (parts k)))
-
-  pub sweeping_more : {l' r' : Matrix} → no_pivot (abs (cell l₁ c c)) ≡ false → Clear c l₁ r₁ l' r' → Sweeping n A (c + 1) l' r'
-  sweeping_more t v =
+  pub sweeping_more : {l' r' : Matrix} → c < n → Swept n c l r l' r' (Ok tt) → Sweeping n A (c + 1) l' r'
+  sweeping_more h s =
       record {
         most = e.most;
         within = omega arith;
-        left = v.left;
-        right = v.right;
-        is = ap (λ (i : ℕ). columns n i A) (add-one c) ∙ next ∙ if_false _ _ t ∙ ap answered (sym (v.is n e.most h));
+        left = s.1;
+        right = s.2;
+        is = ap (λ (i : ℕ). columns n i A) (add-one c) ∙ one_more ∙ s.0;
       }
 
-  pub sweeping_refused : no_pivot (abs (cell l₁ c c)) ≡ true → inv n A ≡ refused 3
+  pub sweeping_refused : {k : Refusal} → c < n → column n c (used n n l beside used n n r) ≡ Err k → inv n A ≡ Err k
   unfolding inv
-  sweeping_refused t =
+  sweeping_refused h q =
       let all : suc c + (n - suc c) ≡ n = omega arith in
-      ap (mapped (λ w. w.right)) (ap (λ (i : ℕ). columns n i A) (sym all) ∙ refused_on n (suc c) (n - suc c) A (next ∙ if_true _ _ t))
+      ap (mapped (λ w. w.right)) (ap (λ (i : ℕ). columns n i A) (sym all) ∙ refused_on n (suc c) (n - suc c) A (one_more ∙ q))
 
--- all columns are done: p is the used part of the right array, as the code hands it over
-pub sweeping_out : {n : ℕ} {A : Matrix} {c : ℕ} {l r p : Matrix} → Sweeping n A c l r → n ≤ c → p ≡ pad (used c c r) → matrix_result Done p ≡ as_matrix (inv n A)
-unfolding inv
-sweeping_out {n} {A} {c} {r = r} e h q =
-    let same : c ≡ n = omega (arith, h, e.within) in
-    ap (matrix_result Done) (q ∙ ap (λ (k : ℕ). pad (used k k r)) same)
-    ∙ ap (λ (o : Answer Augmented). as_matrix (mapped (λ w. w.right) o)) (sym (ap (λ (i : ℕ). columns n i A) (sym same) ∙ e.is))
-
--- ---- out of the entry: s is the size of n, which is tested
-pub inv-sized : (n : ℕ) {s : Size} (a : Matrix) {w : MatrixResult} → sized n ≡ true → s ≡ size_of n → w ≡ as_matrix (inv (count s) (part s s a))
-    → w ≡ as_matrix (if_sized (sized n) (inv n (used n n a)))
-inv-sized n a t e p = if_answered as_matrix _ t (p ∙ inv_at a (is_count t e))
+  -- all columns are done: p is the used part of the right array, as the code hands it over
+  pub sweeping_out : {p : Matrix} → n ≤ c → p ≡ pad (used c c r) → Ok p ≡ as_matrix (inv n A)
+  unfolding inv
+  sweeping_out h q =
+      let same : c ≡ n = omega (arith, h, e.within) in
+      ap Ok (q ∙ ap (λ (k : ℕ). pad (used k k r)) same)
+      ∙ ap (λ (o : Answer Augmented). as_matrix (mapped (λ w. w.right) o)) (sym (ap (λ (i : ℕ). columns n i A) (sym same) ∙ e.is))
 
 -- ---- a result whose rows are read again, all four numbers of each: it stays
 
@@ -179,15 +183,12 @@ four-rows Two A = refl
 four-rows Three A = refl
 four-rows Four A = refl
 
-abbrev again : MatrixResult → MatrixResult
-again r = matrix_result r.status (used 4 4 r.rows)
-
-read_answer : (n : Size) (o : Answer Matrix) → ((B : Matrix) → o ≡ answered B → Shape (count n) (count n) B) → again (as_matrix o) ≡ as_matrix o
-unfolding used cut pad
-read_answer n (refused k) s = refl
-read_answer n (answered B) s =
+read_answer : (n : Size) (o : Answer Matrix) {m : Matrix} → ((B : Matrix) → o ≡ Ok B → Shape (count n) (count n) B) → as_matrix o ≡ Ok m → Ok (used 4 4 m) ≡ as_matrix o
+read_answer n (Err k) s q = cc
+read_answer n (Ok B) s q =
     let same = used_all (count n) (count n) B (s B refl) in
-    ap (λ (A : Matrix). matrix_result Done (used 4 4 (pad A))) (sym same) ∙ ap (matrix_result Done) (four-rows n B) ∙ ap (λ (A : Matrix). matrix_result Done (pad A)) same
+    ap (λ (M : Matrix). Ok (used 4 4 M)) (sym (same_answer q))
+    ∙ ap (λ (A : Matrix). Ok (used 4 4 (pad A))) (sym same) ∙ ap Ok (four-rows n B) ∙ ap (λ (A : Matrix). Ok (pad A)) same
 
-pub inv-read : (n : Size) (a : Matrix) {r : MatrixResult} → r ≡ as_matrix (inv (count n) (part n n a)) → again r ≡ as_matrix (inv (count n) (part n n a))
-inv-read n a q = ap again q ∙ read_answer n (inv (count n) (part n n a)) (inv-shape (count n) (part n n a))
+pub inv-read : (n : Size) (a : Matrix) {m : Matrix} {r : Answer Matrix} → r ≡ as_matrix (inv (count n) (part n n a)) → r ≡ Ok m → Ok (used 4 4 m) ≡ as_matrix (inv (count n) (part n n a))
+inv-read n a p q = read_answer n (inv (count n) (part n n a)) (inv-shape (count n) (part n n a)) (sym p ∙ q)

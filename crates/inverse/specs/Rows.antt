@@ -1,8 +1,9 @@
 -- What the code's operations on rows leave, m', in an array of rows that they are lent, m. Definitions only.
-use Rattle.std.specs.Prelude.{◌≡◌, List, ℕ, suc, ◌-◌, ◌≤◌, ◌<◌, length, set, Float}
+use Rattle.std.specs.Prelude.{◌≡◌, List, ℕ, suc, ◌-◌, ◌≤◌, ◌<◌, length, set, Float, Ok, Err}
+use Rattle.answer.specs.Answer.{Answer}
 use Rattle.algebra.specs.Matrix.{row, vec_scale}
 use Rattle.algebra.specs.Array.{cut, used}
-use Rattle.algebra.specs.Inverse.{pivot_row, ◌beside◌, reduced, cleared}
+use Rattle.algebra.specs.Inverse.{pivot_row, ◌beside◌, reduced, cleared, column}
 
 abbrev pub Array : Type 0
 Array = List (List Float)
@@ -31,3 +32,8 @@ pub record Clear (c : ℕ) (l r l' r' : Array) : Type 0 where
   pub is : (n : ℕ) → n ≤ 4 → c < n → (used n n l' beside used n n r') ≡ cleared n c (used n n l beside used n n r)
   pub left : length l' ≡ 4
   pub right : length r' ≡ 4
+
+-- and the whole of column c, by what it tells
+abbrev pub Swept : ℕ → ℕ → Array → Array → Array → Array → Answer (Unit {0}) → Type 0
+Swept n c l r l' r' (Err k) = column n c (used n n l beside used n n r) ≡ Err k
+Swept n c l r l' r' (Ok u) = (column n c (used n n l beside used n n r) ≡ Ok (used n n l' beside used n n r')) × (length l' ≡ 4) × (length r' ≡ 4)

@@ -3,34 +3,34 @@
 #![tactic(auto)]
 
 ghost use Rattle.std.specs.Prelude.{◌≡◌, ◌<◌, ◌≤◌, ◌-◌, suc, length};
-ghost use Rattle.answer.specs.Answer.{refused, if_sized};
+ghost use Rattle.answer.specs.Answer.{if_sized};
 ghost use Rattle.answer.specs.Table.{table};
-ghost use Rattle.algebra.specs.Matrix.{cell, one_by_one};
+ghost use Rattle.algebra.specs.Matrix.{cell, one_by_one, two_by_two};
 ghost use Rattle.algebra.specs.Array.{used};
 ghost use Rattle.algebra.specs.Inverse.{pivot_row, inv as inv_of};
 ghost use Rattle.sizes.specs.Size.{count, part, sized};
-ghost use Rattle.matrix.specs.Result.{matrix_result, as_matrix};
-ghost use Rattle.small_inverse.specs.Two.{in_rows};
-ghost use Rattle.inverse.specs.Rows.{Swap, Scale, Reduce, Bring, Clear};
+ghost use Rattle.matrix.specs.Result.{as_matrix};
+ghost use Rattle.inverse.specs.Rows.{Swap, Scale, Reduce, Bring, Clear, Swept};
 
-use answer::Status;
-use matrix::{MatrixResult, ScalarResult, VectorResult};
-use sizes::{Size, number};
+use answer::Refusal;
+use scalar::ControlScalar;
+use sizes::Size;
 use small_inverse::{inverse_number, inverse_two, no_pivot};
 
 // ---- the pivot
 
 // The first row, from the diagonal down, of largest magnitude in column col.
+#[inline(always)]
 fn pivot_row(a: &[[f64; 4]; 4], n: Size, col: usize) -> usize
     requires { col < count n }
     ensures { (result ≡ pivot_row a.now col (count n - suc col)) × (result < count n) }
 {
-    let rows = number(n);
+    let rows = usize::from(n);
     let mut p = col;
-    let mut largest = scalar::ControlScalar::abs(a[col][col]);
+    let mut largest = ControlScalar::abs(a[col][col]);
     for i in col + 1..4 {
         if i < rows {
-            let x = scalar::ControlScalar::abs(a[i][col]);
+            let x = ControlScalar::abs(a[i][col]);
             if x > largest {
                 largest = x;
                 p = i;
@@ -70,6 +70,7 @@ fn column_of(m: &[[f64; 4]; 4], col: usize) -> [f64; 4]
 }
 
 // Each row i but col less f[i] times row col.
+#[inline(always)]
 fn reduce_rows(m: &mut [[f64; 4]; 4], col: usize, f: [f64; 4])
     requires { (col < 4) × (length m.old ≡ 4) }
     ensures { Reduce col f m.old m.new }
@@ -93,6 +94,7 @@ fn reduce_rows(m: &mut [[f64; 4]; 4], col: usize, f: [f64; 4])
 // writes the loops out, and keeps both arrays in registers, but for an exchange, which goes by a copy.
 
 // The pivot of column col comes to the diagonal.
+#[inline(always)]
 fn bring_pivot(left: &mut [[f64; 4]; 4], right: &mut [[f64; 4]; 4], n: Size, col: usize)
     requires { (col < count n) × (length left.old ≡ 4) × (length right.old ≡ 4) }
     ensures { Bring (count n) col left.old right.old left.new right.new }
@@ -108,6 +110,7 @@ fn bring_pivot(left: &mut [[f64; 4]; 4], right: &mut [[f64; 4]; 4], n: Size, col
 }
 
 // Column col of left, whose pivot is on the diagonal, becomes that of the identity.
+#[inline(always)]
 fn clear_column(left: &mut [[f64; 4]; 4], right: &mut [[f64; 4]; 4], col: usize)
     requires { (col < 4) × (length left.old ≡ 4) × (length right.old ≡ 4) }
     ensures { Clear col left.old right.old left.new right.new }
@@ -120,124 +123,99 @@ fn clear_column(left: &mut [[f64; 4]; 4], right: &mut [[f64; 4]; 4], col: usize)
     reduce_rows(right, col, f);
 }
 
-// A column has no pivot.
-fn no_inverse() -> MatrixResult
-    ensures { result ≡ as_matrix (refused 3) }
+// The next column, col, becomes that of the identity. Refused as singular: it has no pivot.
+#[inline(always)]
+fn sweep(
+    left: &mut [[f64; 4]; 4],
+    right: &mut [[f64; 4]; 4],
+    n: Size,
+    col: usize,
+) -> Result<(), Refusal>
+    requires { (col < count n) × (length left.old ≡ 4) × (length right.old ≡ 4) }
+    ensures { Swept (count n) col left.old right.old left.new right.new result }
 {
-    matrix::matrix_refused(3)
+    bring_pivot(left, right, n, col);
+    if no_pivot(left[col][col]) {
+        return Err(Refusal::SingularMatrix);
+    }
+    clear_column(left, right, col);
+    Ok(())
 }
 
 // Left is on its way to the identity, and right from the identity to the inverse. Left is a copy of a row
-// by row: so it is known to have four.
-fn eliminate(a: &[[f64; 4]; 4], n: Size) -> MatrixResult
+// by row: so it is known to have four. The columns stand one by one, as literals: a loop over them takes twice the time.
+fn eliminate(a: &[[f64; 4]; 4], n: Size) -> Result<[[f64; 4]; 4], Refusal>
     requires { 3 ≤ count n }
     ensures { result ≡ as_matrix (inv_of (count n) (part n n a.now)) }
 {
     let mut left = [a[0], a[1], a[2], a[3]];
     let mut right = kernel::identity_rows();
-    bring_pivot(&mut left, &mut right, n, 0);
-    if no_pivot(left[0][0]) {
-        return no_inverse();
+    sweep(&mut left, &mut right, n, 0)?;
+    sweep(&mut left, &mut right, n, 1)?;
+    sweep(&mut left, &mut right, n, 2)?;
+    if usize::from(n) < 4 {
+        return Ok(rows::used_part(&right, Size::Three, Size::Three));
     }
-    clear_column(&mut left, &mut right, 0);
-    bring_pivot(&mut left, &mut right, n, 1);
-    if no_pivot(left[1][1]) {
-        return no_inverse();
-    }
-    clear_column(&mut left, &mut right, 1);
-    bring_pivot(&mut left, &mut right, n, 2);
-    if no_pivot(left[2][2]) {
-        return no_inverse();
-    }
-    clear_column(&mut left, &mut right, 2);
-    if number(n) < 4 {
-        return matrix::matrix_result(
-            Status::Done,
-            rows::used_part(&right, Size::Three, Size::Three),
-        );
-    }
-    bring_pivot(&mut left, &mut right, n, 3);
-    if no_pivot(left[3][3]) {
-        return no_inverse();
-    }
-    clear_column(&mut left, &mut right, 3);
-    matrix::matrix_result(
-        Status::Done,
-        rows::used_part(&right, Size::Four, Size::Four),
-    )
+    sweep(&mut left, &mut right, n, 3)?;
+    Ok(rows::used_part(&right, Size::Four, Size::Four))
 }
 
 // ---- the sizes 1 and 2, straight-line
 
-fn inverse_one(x: f64) -> MatrixResult
+fn of_one(x: f64) -> Result<[[f64; 4]; 4], Refusal>
     ensures { result ≡ as_matrix (inv_of 1 (one_by_one x)) }
 {
-    let inverted = inverse_number(x);
-    match inverted {
-        ScalarResult::Value(w) => {
-            let z = [0.0; 4];
-            matrix::matrix_result(Status::Done, [[w, 0.0, 0.0, 0.0], z, z, z])
-        }
-        ScalarResult::Refused(number) => matrix::matrix_refused(number),
-    }
+    let w = inverse_number(x)?;
+    let none = [0.0; 4];
+    Ok([[w, 0.0, 0.0, 0.0], none, none, none])
 }
 
-// Four cells in their rows.
-fn rows_two(r: VectorResult) -> MatrixResult
-    ensures { result ≡ in_rows r }
+fn of_two(a: f64, b: f64, c: f64, d: f64) -> Result<[[f64; 4]; 4], Refusal>
+    ensures { result ≡ as_matrix (inv_of 2 (two_by_two a b c d)) }
 {
-    let w = r.cells;
-    let z = [0.0; 4];
-    let r0 = [w[0], w[1], 0.0, 0.0];
-    let r1 = [w[2], w[3], 0.0, 0.0];
-    let status = r.status;
-    matrix::matrix_result(status, [r0, r1, z, z])
+    let [[e, f], [g, h]] = inverse_two(a, b, c, d)?;
+    let none = [0.0; 4];
+    Ok([[e, f, 0.0, 0.0], [g, h, 0.0, 0.0], none, none])
 }
 
 // ---- the entries. Both choose by size, and only the elimination takes an address and gives a whole matrix
 // back: where an entry is inlined, the compiler then keeps the numbers of the sizes 1 and 2 in registers.
 
 // All four rows, read number by number: so a caller's copy of them is not one block of memory for every size.
-fn read_again(r: MatrixResult) -> MatrixResult
-    ensures { result ≡ matrix_result r.status (used 4 4 r.rows) }
+#[tactic(auto, unfolding(algebra::specs::Array::used, algebra::specs::Array::cut))]
+fn read_again(m: [[f64; 4]; 4]) -> [[f64; 4]; 4]
+    ensures { result ≡ used 4 4 m }
 {
-    let status = r.status;
-    let m = matrix::rows_of(r);
-    let r0 = rows::leading(m[0], Size::Four);
-    let r1 = rows::leading(m[1], Size::Four);
-    let r2 = rows::leading(m[2], Size::Four);
-    let r3 = rows::leading(m[3], Size::Four);
-    matrix::matrix_result(status, [r0, r1, r2, r3])
+    [
+        rows::leading(m[0], Size::Four),
+        rows::leading(m[1], Size::Four),
+        rows::leading(m[2], Size::Four),
+        rows::leading(m[3], Size::Four),
+    ]
 }
 
-// The inverse of the n by n matrix a, lent. Refused with 3: a column has no pivot.
-pub fn inverse_of(a: &[[f64; 4]; 4], n: Size) -> MatrixResult
+// The inverse of the n by n matrix a, lent. Refused as singular: a column has no pivot.
+pub fn inverse_of(a: &[[f64; 4]; 4], n: Size) -> Result<[[f64; 4]; 4], Refusal>
     ensures { result ≡ as_matrix (inv_of (count n) (part n n a.now)) }
 {
-    let k = number(n);
-    if k < 2 {
-        return inverse_one(a[0][0]);
+    match n {
+        Size::One => of_one(a[0][0]),
+        Size::Two => of_two(a[0][0], a[0][1], a[1][0], a[1][1]),
+        Size::Three | Size::Four => eliminate(a, n),
     }
-    if k < 3 {
-        return rows_two(inverse_two(a[0][0], a[0][1], a[1][0], a[1][1]));
-    }
-    eliminate(a, n)
 }
 
-// The same, by value. Refused with 1: n is no size.
-pub fn inv(a: [[f64; 4]; 4], n: usize) -> MatrixResult
+// The same, by value. Refused too: n is no size.
+pub fn inv(a: [[f64; 4]; 4], n: usize) -> Result<[[f64; 4]; 4], Refusal>
     ensures { result ≡ as_matrix (if_sized (sized n) (inv_of n (used n n a))) }
 {
-    if sizes::is_size(n) {
-        if n < 2 {
-            return inverse_one(a[0][0]);
+    let size = Size::try_from(n)?;
+    match size {
+        Size::One => of_one(a[0][0]),
+        Size::Two => of_two(a[0][0], a[0][1], a[1][0], a[1][1]),
+        Size::Three | Size::Four => {
+            let lent = a;
+            Ok(read_again(eliminate(&lent, size)?))
         }
-        if n < 3 {
-            return rows_two(inverse_two(a[0][0], a[0][1], a[1][0], a[1][1]));
-        }
-        let lent = a;
-        read_again(eliminate(&lent, sizes::size_of(n)))
-    } else {
-        matrix::matrix_refused(1)
     }
 }

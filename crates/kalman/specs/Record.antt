@@ -1,22 +1,16 @@
 -- The filter record of the code: what it holds, and what each method makes of it. Definitions only.
 use Rattle.std.specs.Prelude.{ℕ, List, [], ◌∷◌, Float}
+use Rattle.answer.specs.declared.Step.{Step}
 use Rattle.answer.specs.Answer.{Answer, where_sized}
-use Rattle.answer.specs.Outcome.{Outcome, into, if_fitting, standing, handed}
-use Rattle.answer.specs.Told.{status_of}
+use Rattle.answer.specs.Outcome.{Outcome, into, if_fitting, handed}
 use Rattle.algebra.specs.Matrix.{Vector, Matrix}
 use Rattle.algebra.specs.Array.{cut, used_flat, pad_row}
-use Rattle.matrix.specs.declared.MatrixResult.{MatrixResult}
-use Rattle.matrix.specs.declared.VectorResult.{VectorResult}
-use Rattle.matrix.specs.Result.{as_matrix, as_vector}
+use Rattle.matrix.specs.Result.{as_matrix, as_vector, as_one}
 use Rattle.filtering.specs.Filter.{Motion, Sensor, Estimate, estimate}
 use Rattle.filtering.specs.Linear.{predict, update, tracker_motion, tracker_sensor, at_start}
 use Rattle.steps.specs.Step.{well_sized, fitting}
 use Rattle.steps.specs.Flat.{flat, motion_flat, sensor_flat, estimate_from}
-use Rattle.matrix.specs.Result.{as_one}
 use Rattle.kalman.specs.declared.KalmanFilter.{KalmanFilter}
-use Rattle.kalman.specs.declared.Stepped.{Stepped}
-use Rattle.kalman.specs.declared.Updated.{Updated}
-use Rattle.kalman.specs.declared.UpdatedOne.{UpdatedOne}
 
 -- ---- an estimate in the numbers x and p
 abbrev pub estimate_flat : ℕ → List Float → List Float → Estimate
@@ -25,16 +19,12 @@ estimate_flat n x p = estimate (cut n x) (used_flat n n p)
 abbrev pub flats_of : Estimate → List Float × List Float
 flats_of e = (pad_row e.state, flat e.covariance)
 
--- an outcome in the numbers x and p, where it leaves an estimate
-abbrev pub left_flat : {R : Type 0} → List Float → List Float → Outcome Estimate R → List Float × List Float
-left_flat x p o = standing flats_of (x, p) o.left
+-- ---- the steps on a record's numbers, by the sizes
+abbrev pub predict_flat : ℕ → ℕ → KalmanFilter → List Float → Outcome Estimate (Unit {0})
+predict_flat n i f u = predict (motion_flat n i f.a f.b f.q) (cut i u) (estimate_flat n f.x f.p)
 
--- ---- the steps on a record's numbers
-abbrev pub predict_flat : ℕ → ℕ → List Float → List Float → List Float → List Float → List Float → List Float → Outcome Estimate (Unit {0})
-predict_flat n i a b q u x p = predict (motion_flat n i a b q) (cut i u) (estimate_flat n x p)
-
-abbrev pub update_flat : ℕ → ℕ → List Float → List Float → Vector → List Float → List Float → Outcome Estimate Vector
-update_flat n m h r z x p = update (sensor_flat n m h r) z (estimate_flat n x p)
+abbrev pub update_flat : ℕ → ℕ → KalmanFilter → Vector → Outcome Estimate Vector
+update_flat n m f z = update (sensor_flat n m f.h f.r) z (estimate_flat n f.x f.p)
 
 -- ---- a record of a model and an estimate
 abbrev pub record_of : Motion → Sensor Matrix → Estimate → KalmanFilter
@@ -69,46 +59,41 @@ keeping f w = record {
 abbrev pub holding : KalmanFilter → Estimate → KalmanFilter
 holding f e = keeping f (flats_of e)
 
--- no sizes, and +0 everywhere
-abbrev pub no_filter : KalmanFilter
-no_filter = record_of (record { n = 0; i = 0; a = []; b = []; q = [] }) (record { n = 0; m = 0; h = []; r = [] }) (estimate [] [])
-
 -- ---- the outcome of each step: 1 where a size does not fit, else that of the filter
 abbrev pub predicting : KalmanFilter → List Float → ℕ → Outcome Estimate (Unit {0})
-predicting f u k = if_fitting (fitting f.n f.m f.i f.i k) (predict_flat f.n f.i f.a f.b f.q u f.x f.p)
+predicting f u k = if_fitting (fitting f.n f.m f.i f.i k) (predict_flat f.n f.i f u)
 
 abbrev pub updating : KalmanFilter → Vector → ℕ → Outcome Estimate Vector
-updating f z k = if_fitting (fitting f.n f.m f.i f.m k) (update_flat f.n f.m f.h f.r z f.x f.p)
-
--- ---- what each method hands back: its answer, and the filter that it leaves
-abbrev pub stepped : {R : Type 0} → KalmanFilter → Outcome Estimate R → Stepped
-stepped f o = let w = handed status_of (holding f) f o in record { answer = w.0; filter = w.1 }
-
-abbrev pub predict_of : KalmanFilter → List Float → ℕ → Stepped
-predict_of f u k = stepped f (predicting f u k)
-
-abbrev pub update_of : KalmanFilter → List Float → ℕ → Updated
-update_of f z k = let w = handed as_vector (holding f) f (updating f (cut f.m z) k) in record { answer = w.0; filter = w.1 }
-
--- one reading: the innovation is a number
-abbrev pub update_one_of : KalmanFilter → Float → UpdatedOne
-update_one_of f z = let w = handed as_one (holding f) f (updating f (z ∷ []) 1) in record { answer = w.0; filter = w.1 }
+updating f z k = if_fitting (fitting f.n f.m f.i f.m k) (update_flat f.n f.m f z)
 
 -- the k numbers of x, and the k × k part of p
-abbrev pub reset_of : KalmanFilter → List Float → List (List Float) → ℕ → Stepped
-reset_of f x p k = stepped f (into (where_sized (fitting f.n f.m f.i f.n k) (estimate_from f.n x p)))
+abbrev pub resetting : KalmanFilter → List Float → List (List Float) → ℕ → Outcome Estimate (Unit {0})
+resetting f x p k = into (where_sized (fitting f.n f.m f.i f.n k) (estimate_from f.n x p))
 
--- beside a refusal there is no filter
-abbrev pub made : Answer KalmanFilter → Stepped
-made a = let w = handed status_of (λ f. f) no_filter (into a) in record { answer = w.0; filter = w.1 }
+-- ---- what each method hands back: its answer, and the filter that it leaves
+abbrev pub stepped : {R T : Type 0} → (Answer R → Answer T) → KalmanFilter → Outcome Estimate R → Step T KalmanFilter
+stepped tell f o = let w = handed tell (holding f) f o in record { answer = w.0; left = w.1 }
 
-abbrev pub new_of : Motion → Sensor Matrix → Estimate → Stepped
-new_of M Y e = made (where_sized (well_sized M.n Y.m M.i) (record_of M Y e))
+abbrev pub predict_of : KalmanFilter → List Float → ℕ → Step (Unit {0}) KalmanFilter
+predict_of f u k = stepped (λ a. a) f (predicting f u k)
 
-abbrev pub state_of : KalmanFilter → VectorResult
+abbrev pub update_of : KalmanFilter → List Float → ℕ → Step (List Float) KalmanFilter
+update_of f z k = stepped as_vector f (updating f (cut f.m z) k)
+
+-- one reading: the innovation is a number
+abbrev pub update_one_of : KalmanFilter → Float → Step Float KalmanFilter
+update_one_of f z = stepped as_one f (updating f (z ∷ []) 1)
+
+abbrev pub reset_of : KalmanFilter → List Float → List (List Float) → ℕ → Step (Unit {0}) KalmanFilter
+reset_of f x p k = stepped (λ a. a) f (resetting f x p k)
+
+abbrev pub new_of : Motion → Sensor Matrix → Estimate → Answer KalmanFilter
+new_of M Y e = where_sized (well_sized M.n Y.m M.i) (record_of M Y e)
+
+abbrev pub state_of : KalmanFilter → Answer (List Float)
 state_of f = as_vector (where_sized (well_sized f.n f.m f.i) (cut f.n f.x))
 
-abbrev pub covariance_of : KalmanFilter → MatrixResult
+abbrev pub covariance_of : KalmanFilter → Answer (List (List Float))
 covariance_of f = as_matrix (where_sized (well_sized f.n f.m f.i) (used_flat f.n f.n f.p))
 
 -- the tracker at its start

@@ -3,12 +3,14 @@
 #![tactic(auto)]
 
 ghost use Rattle.std.specs.Prelude.{◌≡◌, [], ◌∷◌};
+ghost use Rattle.answer.specs.Answer.{mapped};
 ghost use Rattle.answer.specs.Outcome.{done};
+ghost use Rattle.algebra.specs.Inverse.{inv as inv_of};
 ghost use Rattle.filtering.specs.Filter.{gain as gain_of};
 ghost use Rattle.filtering.specs.Linear.{predict as predict_of, update as update_of};
 ghost use Rattle.road.specs.Road.{matrix_of, motion_of, sensor_of, estimate_of, road_of, tracker_of, corrected_of, corrected_by, updated_of};
 
-use matrix::ScalarResult;
+use answer::Refusal;
 
 // The rows (a, b) and (c, d).
 #[derive(Clone, Copy)]
@@ -27,85 +29,116 @@ pub struct Pair {
     pub p: Two,
 }
 
-// An update's answer, the innovation or the refusal, and the inverted innovation variance.
+// How a pair moves: to A x + B u, with process noise q.
 #[derive(Clone, Copy)]
-pub struct Innovated {
-    pub answer: ScalarResult,
-    pub inverse: f64,
-}
-
-// A road's filter: a, b, h, q and r, and the pair.
-#[derive(Clone, Copy)]
-pub struct Road {
+pub struct Motion {
     pub a: Two,
     pub b0: f64,
     pub b1: f64,
+    pub q: Two,
+}
+
+// What is measured of a pair: H x, one number, with noise r.
+#[derive(Clone, Copy)]
+pub struct Sensor {
     pub h0: f64,
     pub h1: f64,
-    pub q: Two,
     pub r: f64,
+}
+
+// An update's innovation, and the inverted innovation variance.
+#[derive(Clone, Copy)]
+pub struct Innovation {
+    pub innovation: f64,
+    pub inverse: f64,
+}
+
+// A road's filter.
+#[derive(Clone, Copy)]
+pub struct Road {
+    pub motion: Motion,
+    pub sensor: Sensor,
     pub pair: Pair,
 }
 
-// Position and speed, with the step dt in seconds; the position is measured. At the start both are 0, with a large variance.
-pub fn position_velocity(dt: f64, process_noise: f64, measurement_noise: f64) -> Road
-    ensures { road_of result ≡ tracker_of dt process_noise measurement_noise }
-{
-    let dt2 = dt * dt;
-    let dt3 = dt2 * dt;
-    let dt4 = dt3 * dt;
-    let q01 = process_noise * dt3 * 0.5;
-    let large = 1.0 * 1000.0;
-    let none = 0.0 * 1000.0;
-    Road {
-        a: Two {
-            a: 1.0,
-            b: dt,
-            c: 0.0,
-            d: 1.0,
-        },
-        b0: dt * dt * 0.5,
-        b1: dt,
-        h0: 1.0,
-        h1: 0.0,
-        q: Two {
-            a: process_noise * dt4 * 0.25,
-            b: q01,
-            c: q01,
-            d: process_noise * dt2,
-        },
-        r: measurement_noise * measurement_noise,
-        pair: Pair {
-            x0: 0.0,
-            x1: 0.0,
-            p: Two {
-                a: large,
-                b: none,
-                c: none,
-                d: large,
+impl Road {
+    // Position and speed, with the step dt in seconds; the position is measured. At the start both are 0, with a large variance.
+    pub fn position_velocity(dt: f64, process_noise: f64, measurement_noise: f64) -> Road
+        ensures { road_of result ≡ tracker_of dt process_noise measurement_noise }
+    {
+        let dt2 = dt * dt;
+        let dt3 = dt2 * dt;
+        let dt4 = dt3 * dt;
+        let q01 = process_noise * dt3 * 0.5;
+        let large = 1.0 * 1000.0;
+        let none = 0.0 * 1000.0;
+        Road {
+            motion: Motion {
+                a: Two {
+                    a: 1.0,
+                    b: dt,
+                    c: 0.0,
+                    d: 1.0,
+                },
+                b0: dt * dt * 0.5,
+                b1: dt,
+                q: Two {
+                    a: process_noise * dt4 * 0.25,
+                    b: q01,
+                    c: q01,
+                    d: process_noise * dt2,
+                },
             },
-        },
+            sensor: Sensor {
+                h0: 1.0,
+                h1: 0.0,
+                r: measurement_noise * measurement_noise,
+            },
+            pair: Pair {
+                x0: 0.0,
+                x1: 0.0,
+                p: Two {
+                    a: large,
+                    b: none,
+                    c: none,
+                    d: large,
+                },
+            },
+        }
     }
 }
 
-// A x + B u, and A P Aᵀ + Q.
-pub fn predict(a: Two, b0: f64, b1: f64, q: Two, u: f64, e: Pair) -> Pair
-    ensures { done tt (estimate_of result) ≡ predict_of (motion_of a b0 b1 q) (u ∷ []) (estimate_of e) }
-{
-    let p = e.p;
-    let s0 = 0.0 + a.a * p.a + a.b * p.c;
-    let s1 = 0.0 + a.a * p.b + a.b * p.d;
-    let t0 = 0.0 + a.c * p.a + a.d * p.c;
-    let t1 = 0.0 + a.c * p.b + a.d * p.d;
-    Pair {
-        x0: (0.0 + a.a * e.x0 + a.b * e.x1) + (0.0 + b0 * u),
-        x1: (0.0 + a.c * e.x0 + a.d * e.x1) + (0.0 + b1 * u),
-        p: Two {
-            a: (0.0 + s0 * a.a + s1 * a.b) + q.a,
-            b: (0.0 + s0 * a.c + s1 * a.d) + q.b,
-            c: (0.0 + t0 * a.a + t1 * a.b) + q.c,
-            d: (0.0 + t0 * a.c + t1 * a.d) + q.d,
-        },
+impl Two {
+    // Refused as singular: a column has no pivot.
+    pub fn inverse(self) -> Result<Two, Refusal>
+        ensures { mapped matrix_of result ≡ inv_of 2 (matrix_of self) }
+    {
+        let [[a, b], [c, d]] = small_inverse::inverse_two(self.a, self.b, self.c, self.d)?;
+        Ok(Two { a, b, c, d })
+    }
+}
+
+impl Motion {
+    // A x + B u, and A P Aᵀ + Q.
+    pub fn predict(self, u: f64, e: Pair) -> Pair
+        ensures { done tt (estimate_of result) ≡ predict_of (motion_of self) (u ∷ []) (estimate_of e) }
+    {
+        let Motion { a, b0, b1, q } = self;
+        let p = e.p;
+        let s0 = 0.0 + a.a * p.a + a.b * p.c;
+        let s1 = 0.0 + a.a * p.b + a.b * p.d;
+        let t0 = 0.0 + a.c * p.a + a.d * p.c;
+        let t1 = 0.0 + a.c * p.b + a.d * p.d;
+        Pair {
+            x0: (0.0 + a.a * e.x0 + a.b * e.x1) + (0.0 + b0 * u),
+            x1: (0.0 + a.c * e.x0 + a.d * e.x1) + (0.0 + b1 * u),
+            p: Two {
+                a: (0.0 + s0 * a.a + s1 * a.b) + q.a,
+                b: (0.0 + s0 * a.c + s1 * a.d) + q.b,
+                c: (0.0 + t0 * a.a + t1 * a.b) + q.c,
+                d: (0.0 + t0 * a.c + t1 * a.d) + q.d,
+            },
+        }
     }
 }
 
@@ -125,48 +158,49 @@ pub fn gain(p: Two, h: Two, w: Two) -> Two
     }
 }
 
-// An update by the measurement z is two functions, so that each is short enough to be inlined wherever it is called: first its
-// answer. Refused with 3: inversion rejects the innovation variance; the pair stays.
-pub fn innovation(h0: f64, h1: f64, r: f64, z: f64, e: Pair) -> Innovated
-    ensures { (result.answer, corrected_by h0 h1 (estimate_of e) result.answer result.inverse)
-        ≡ updated_of (estimate_of e) (update_of (sensor_of h0 h1 r) (z ∷ []) (estimate_of e)) }
-{
-    let p = e.p;
-    let s0 = 0.0 + h0 * p.a + h1 * p.c;
-    let s1 = 0.0 + h0 * p.b + h1 * p.d;
-    let s = (0.0 + s0 * h0 + s1 * h1) + r;
-    let inverted = small_inverse::inverse_number(s);
-    match inverted {
-        ScalarResult::Value(w) => Innovated {
-            answer: ScalarResult::Value(z - (0.0 + h0 * e.x0 + h1 * e.x1)),
-            inverse: w,
-        },
-        ScalarResult::Refused(number) => Innovated {
-            answer: ScalarResult::Refused(number),
-            inverse: 0.0,
-        },
+// An update by the measurement z is two functions, so that each is short enough to be inlined wherever it is called.
+impl Sensor {
+    // Its innovation. Refused as singular: inversion rejects the innovation variance; the pair stays.
+    pub fn innovation(self, z: f64, e: Pair) -> Result<Innovation, Refusal>
+        ensures { (mapped (λ i. i.innovation) result, corrected_by (sensor_of self) (estimate_of e) result)
+            ≡ updated_of (estimate_of e) (update_of (sensor_of self) (z ∷ []) (estimate_of e)) }
+    {
+        let Sensor { h0, h1, r } = self;
+        let p = e.p;
+        let s0 = 0.0 + h0 * p.a + h1 * p.c;
+        let s1 = 0.0 + h0 * p.b + h1 * p.d;
+        let s = (0.0 + s0 * h0 + s1 * h1) + r;
+        let inverse = small_inverse::inverse_number(s)?;
+        Ok(Innovation {
+            innovation: z - (0.0 + h0 * e.x0 + h1 * e.x1),
+            inverse,
+        })
     }
-}
 
-// What the innovation y and the inverted innovation variance w lead to: the rest of an update.
-pub fn corrected(h0: f64, h1: f64, e: Pair, y: f64, w: f64) -> Pair
-    ensures { estimate_of result ≡ corrected_of h0 h1 (estimate_of e) y w }
-{
-    let p = e.p;
-    let k0 = 0.0 + (0.0 + p.a * h0 + p.b * h1) * w;
-    let k1 = 0.0 + (0.0 + p.c * h0 + p.d * h1) * w;
-    let s0 = 1.0 - (0.0 + k0 * h0);
-    let s1 = 0.0 - (0.0 + k0 * h1);
-    let t0 = 0.0 - (0.0 + k1 * h0);
-    let t1 = 1.0 - (0.0 + k1 * h1);
-    Pair {
-        x0: e.x0 + (0.0 + k0 * y),
-        x1: e.x1 + (0.0 + k1 * y),
-        p: Two {
-            a: 0.0 + s0 * p.a + s1 * p.c,
-            b: 0.0 + s0 * p.b + s1 * p.d,
-            c: 0.0 + t0 * p.a + t1 * p.c,
-            d: 0.0 + t0 * p.b + t1 * p.d,
-        },
+    // What it leads to: the rest of an update.
+    pub fn corrected(self, e: Pair, found: Innovation) -> Pair
+        ensures { estimate_of result ≡ corrected_of (sensor_of self) (estimate_of e) found }
+    {
+        let h0 = self.h0;
+        let h1 = self.h1;
+        let y = found.innovation;
+        let w = found.inverse;
+        let p = e.p;
+        let k0 = 0.0 + (0.0 + p.a * h0 + p.b * h1) * w;
+        let k1 = 0.0 + (0.0 + p.c * h0 + p.d * h1) * w;
+        let s0 = 1.0 - (0.0 + k0 * h0);
+        let s1 = 0.0 - (0.0 + k0 * h1);
+        let t0 = 0.0 - (0.0 + k1 * h0);
+        let t1 = 1.0 - (0.0 + k1 * h1);
+        Pair {
+            x0: e.x0 + (0.0 + k0 * y),
+            x1: e.x1 + (0.0 + k1 * y),
+            p: Two {
+                a: 0.0 + s0 * p.a + s1 * p.c,
+                b: 0.0 + s0 * p.b + s1 * p.d,
+                c: 0.0 + t0 * p.a + t1 * p.c,
+                d: 0.0 + t0 * p.b + t1 * p.d,
+            },
+        }
     }
 }

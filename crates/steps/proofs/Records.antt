@@ -7,26 +7,23 @@ use lib.ListN.{length}
 use lib.Dec.{eqb}
 use lib.Ieee.{Float, nan}
 use borrow.Author.Tests.{eqb-true}
-use Rattle.answer.specs.declared.Status.{Status}
-use Rattle.answer.specs.declared.Status.TheVariants.{Done, Refused}
-use Rattle.answer.specs.Answer.{Answer, refused, answered}
+use Rattle.std.specs.Prelude.{Ok, Err}
+use Rattle.answer.specs.declared.Refusal.{Refusal}
+use Rattle.answer.specs.declared.Refusal.TheVariants.{WrongSize}
+use Rattle.answer.specs.Answer.{Answer, mapped}
 use Rattle.answer.specs.Outcome.{Outcome, Left, unchanged, this, if_fitting, standing, handed}
 use Rattle.scalar.specs.Number.{+0}
 use Rattle.answer.specs.Table.{table}
-use Rattle.answer.proofs.Answers.{differ}
+use Rattle.answer.proofs.Answers.{differ, same_answer}
 use Rattle.answer.proofs.Choice.{and_left, and_right}
 use Rattle.answer.proofs.Tables.{table-get_or}
 use Rattle.algebra.specs.Matrix.{Vector, at}
 use Rattle.algebra.specs.Array.{cut, pad_row}
 use Rattle.sizes.specs.declared.Size.{Size}
-use Rattle.matrix.specs.declared.VectorResult.{VectorResult}
-use Rattle.matrix.specs.declared.ScalarResult.TheVariants as Scalar
 use Rattle.sizes.specs.Size.{count, size_of, sized}
-use Rattle.matrix.specs.Result.{as_vector}
 use Rattle.sizes.proofs.Sizes.{is_count}
-use Rattle.matrix.proofs.Results.{done_not_refused}
 use Rattle.steps.specs.Step.{fitting}
-use Rattle.matrix.specs.Result.{as_one}
+use Rattle.matrix.specs.Result.{as_vector, as_one}
 use Rattle.steps.proofs.Sizes.{Fits, fits, as_asked}
 
 -- ---- `put` makes the numbers W of what a filter keeps, and `keep` the record F around them
@@ -56,20 +53,29 @@ module _ {S W R T : Type 0} (tell : Answer R → T) (put : S → W) (w : W) (f :
     pub by_rows : {N A : Size} → (Fits n m i → sized asked ≡ true) → t ≡ true → N ≡ size_of n → A ≡ size_of asked → y ≡ of (f (count N) (count A)) → y ≡ whole
     by_rows is h a b q = let s = fits n m i asked k (sym e ∙ h) in fitted h (is_count s.states a) (is_count (is s) b) q
 
-    pub unfit : t ≡ false → y ≡ (tell (refused 1), w) → y ≡ whole
+    pub unfit : t ≡ false → y ≡ (tell (Err WrongSize), w) → y ≡ whole
     unfit h q = q ∙ λ d. of (if_fitting ((sym h ∙ e) d) (f n asked))
 
--- ---- one number is all of a vector; what an update tells as the vector v, as a number: by its status
+-- the same where the sizes were given by their type: t is the test that they passed
+pub by_sizes : {S W R T : Type 0} (tell : Answer R → T) (put : S → W) (w : W) (f : ℕ → ℕ → Outcome S R) {n asked j l : ℕ} {t : Bool} {y : T × W} → t ≡ true → j ≡ n → l ≡ asked
+    → y ≡ handed tell put w (f j l) → y ≡ handed tell put w (if_fitting t (f n asked))
+by_sizes tell put w f h a b q = q ∙ λ d. handed tell put w (if_fitting (sym h d) (f (a d) (b d)))
+
+-- ---- one number is all of a vector; what an update tells as the vector v, as a number
 pub one_number : (y : Vector) → length y ≡ 1 → at y 0 ∷ [] ≡ y
 one_number y l = ap (λ (k : ℕ). table k (at y)) (sym l) ∙ table-get_or y nan
 
-pub one_value : (a : Answer Vector) {v : VectorResult} → ((y : Vector) → a ≡ answered y → length y ≡ 1) → v ≡ as_vector a → v.status ≡ Done → Scalar.Value (at v.cells 0) ≡ as_one a
-one_value (refused k) l q s = absurd (done_not_refused (sym s ∙ λ t. (q t).status))
-one_value (answered y) l q s = ap Scalar.Value ((λ t. at (q t).cells 0) ∙ ap (λ (u : Vector). at (pad_row u) 0) (sym (one_number y (l y refl))))
+pub one_mapped : (a : Answer Vector) → ((y : Vector) → a ≡ Ok y → length y ≡ 1) → mapped (λ c. at c 0) (as_vector a) ≡ as_one a
+one_mapped (Err k) l = refl
+one_mapped (Ok y) l = ap Ok (ap (λ (u : Vector). at (pad_row u) 0) (sym (one_number y (l y refl))))
 
-pub one_no_value : (a : Answer Vector) {v : VectorResult} {k : ℕ} → v ≡ as_vector a → v.status ≡ Refused k → Scalar.Refused k ≡ as_one a
-one_no_value (refused j) {k = k} q s = let e : ◌≡◌ {A = Status} (Refused k) (Refused j) = sym s ∙ (λ t. (q t).status) in cc
-one_no_value (answered y) q s = absurd (done_not_refused ((λ t. (sym q t).status) ∙ s))
+pub one_value : (a : Answer Vector) {v : Answer (List Float)} {c : List Float} → ((y : Vector) → a ≡ Ok y → length y ≡ 1) → v ≡ as_vector a → v ≡ Ok c → Ok (at c 0) ≡ as_one a
+one_value (Err k) l q s = cc
+one_value (Ok y) l q s = ap Ok (ap (λ (u : Vector). at u 0) (same_answer (sym s ∙ q)) ∙ ap (λ (u : Vector). at (pad_row u) 0) (sym (one_number y (l y refl))))
+
+pub one_no_value : (a : Answer Vector) {v : Answer (List Float)} {k : Refusal} → v ≡ as_vector a → v ≡ Err k → Err k ≡ as_one a
+one_no_value (Err j) q s = cc
+one_no_value (Ok y) q s = cc
 
 -- ---- one reading, in the first of four numbers: `by` is the step with m numbers, which tells m
 module _ {S : Type 0} (n m i : ℕ) (by : Vector → Outcome S Vector) (z : Float) where
@@ -87,9 +93,9 @@ module _ {S : Type 0} (n m i : ℕ) (by : Vector → Outcome S Vector) (z : Floa
       go true h = ap (λ (m : ℕ). by (cut m one_of_four)) (as_asked n m i m 1 h)
       go false h = refl
 
-  pub one_told : ((y : Vector) → (by (z ∷ [])).told ≡ answered y → length y ≡ m) → (y : Vector) → (stepping (z ∷ [])).told ≡ answered y → length y ≡ 1
+  pub one_told : ((y : Vector) → (by (z ∷ [])).told ≡ Ok y → length y ≡ m) → (y : Vector) → (stepping (z ∷ [])).told ≡ Ok y → length y ≡ 1
   one_told l y q = go (fitting n m i m 1) refl q
     where
-      go : (t : Bool) → fitting n m i m 1 ≡ t → (if_fitting t (by (z ∷ []))).told ≡ answered y → length y ≡ 1
+      go : (t : Bool) → fitting n m i m 1 ≡ t → (if_fitting t (by (z ∷ []))).told ≡ Ok y → length y ≡ 1
       go true h q = l y q ∙ as_asked n m i m 1 h
       go false h q = absurd (differ q)

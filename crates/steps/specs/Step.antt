@@ -1,11 +1,10 @@
 -- A step on arrays of four rows of four: what they hold, and how its outcome is handed over in them. Definitions only.
 use Rattle.std.specs.Prelude.{ℕ, List, Bool, ◌&&◌, eqb, Float}
-use Rattle.answer.specs.declared.Status.{Status}
+use Rattle.answer.specs.Answer.{Answer}
 use Rattle.answer.specs.Outcome.{Outcome, standing, handed}
 use Rattle.algebra.specs.Matrix.{Vector, Matrix}
 use Rattle.algebra.specs.Array.{pad_row, pad}
 use Rattle.sizes.specs.declared.Size.{Size}
-use Rattle.matrix.specs.declared.VectorResult.{VectorResult}
 use Rattle.sizes.specs.Size.{sized, count, front, part}
 use Rattle.matrix.specs.Result.{as_vector}
 use Rattle.filtering.specs.Filter.{Motion, Sensor, Estimate, estimate}
@@ -46,8 +45,8 @@ left_rows x p o = standing arrays_of (x, p) o.left
 abbrev pub predict_rows : Size → Size → Rows → Rows → Rows → List Float → List Float → Rows → List Float × Rows
 predict_rows n i a b q u x p = left_rows x p (predict (motion_rows n i a b q) (front i u) (estimate_rows n x p))
 
-abbrev pub updated_rows : List Float → Rows → Outcome Estimate Vector → VectorResult × (List Float × Rows)
+abbrev pub updated_rows : List Float → Rows → Outcome Estimate Vector → Answer (List Float) × (List Float × Rows)
 updated_rows x p o = handed as_vector arrays_of (x, p) o
 
-abbrev pub update_rows : Size → Size → Rows → Rows → List Float → List Float → Rows → VectorResult × (List Float × Rows)
+abbrev pub update_rows : Size → Size → Rows → Rows → List Float → List Float → Rows → Answer (List Float) × (List Float × Rows)
 update_rows n m h r z x p = updated_rows x p (update (sensor_rows n m h r) (front m z) (estimate_rows n x p))

@@ -4,20 +4,22 @@
 #![tactic(auto)]
 
 ghost use Rattle.std.specs.Prelude.{◌≡◌, []};
+ghost use Rattle.answer.specs.Answer.{where_sized};
 ghost use Rattle.algebra.specs.Array.{pad_row, pad};
-ghost use Rattle.sizes.specs.Size.{count, front, part};
+ghost use Rattle.sizes.specs.Size.{count, size_of, front, part};
 ghost use Rattle.filtering.specs.Filter.{predicted_state, propagated as propagated_of, innovation as innovation_of, gain as gain_of, corrected_state, corrected_covariance};
 ghost use Rattle.steps.specs.Step.{well_sized, fitting, motion_rows, predict_rows, update_rows};
 
-use answer::Status;
-use matrix::VectorResult;
-use sizes::{Size, both, number};
+use answer::Refusal;
+use sizes::{Size, both, size_of};
 
+mod at_sizes;
 pub mod four;
 
-// ---- the sizes of a filter, tested by one bool
+// ---- the sizes of a filter
 
 // All sizes are 1 to 4.
+#[tactic(auto, unfolding(crate::specs::Step::well_sized))]
 pub fn is_well_sized(n: usize, m: usize, i: usize) -> bool
     ensures { result ≡ well_sized n m i }
 {
@@ -28,10 +30,39 @@ pub fn is_well_sized(n: usize, m: usize, i: usize) -> bool
 }
 
 // And the k numbers that come with a call are as many as are asked for.
+#[tactic(auto, unfolding(crate::specs::Step::fitting))]
 pub fn is_fitting(n: usize, m: usize, i: usize, asked: usize, k: usize) -> bool
     ensures { result ≡ fitting n m i asked k }
 {
     both(is_well_sized(n, m, i), asked == k)
+}
+
+// The sizes of n states, m measurements and i inputs, by their type.
+pub fn sized(n: usize, m: usize, i: usize) -> Result<(Size, Size, Size), Refusal>
+    ensures { result ≡ where_sized (well_sized n m i) (size_of n, size_of m, size_of i) }
+{
+    if is_well_sized(n, m, i) {
+        Ok((size_of(n), size_of(m), size_of(i)))
+    } else {
+        Err(Refusal::WrongSize)
+    }
+}
+
+// The same, for a call that comes with k numbers.
+pub fn fitted(
+    n: usize,
+    m: usize,
+    i: usize,
+    asked: usize,
+    k: usize,
+) -> Result<(Size, Size, Size), Refusal>
+    ensures { result ≡ where_sized (fitting n m i asked k) (size_of n, size_of m, size_of i) }
+{
+    if is_fitting(n, m, i, asked, k) {
+        Ok((size_of(n), size_of(m), size_of(i)))
+    } else {
+        Err(Refusal::WrongSize)
+    }
 }
 
 // ---- the parts
@@ -47,14 +78,11 @@ pub fn predicted_state<'a>(
 ) -> [f64; 4]
     ensures { result ≡ pad_row (predicted_state (motion_rows n i a.now b.now []) (front i u.now) (front n x.now)) }
 {
-    if number(n) == 4 {
-        if number(i) == 2 {
-            return four_states::predicted_state(a, b, x, u);
-        }
+    if let (Size::Four, Size::Two) = (n, i) {
+        at_sizes::predicted_state(a, b, x, u, Size::Four, Size::Two)
+    } else {
+        at_sizes::predicted_state(a, b, x, u, n, i)
     }
-    let ax = rows::row_product_transposed(*x, a, n);
-    let bu = rows::row_product_transposed(*u, b, i);
-    rows::leading(rows::row_sum(ax, bu), n)
 }
 
 // A P Aᵀ + Q, for an A of r rows and n columns
@@ -67,19 +95,11 @@ pub fn propagated<'a>(
 ) -> [[f64; 4]; 4]
     ensures { result ≡ pad (propagated_of (count r) (count n) (part r n a.now) (part n n p.now) (part r r q.now)) }
 {
-    let rows = number(r);
-    if number(n) == 4 {
-        if rows == 4 {
-            return four_states::propagated(a, p, q);
-        }
+    if let (Size::Four, Size::Four) = (r, n) {
+        four_states::propagated(a, p, q)
+    } else {
+        at_sizes::propagated(a, p, q, r, n)
     }
-    let mut out = [[0.0; 4]; 4];
-    for i in 0..rows {
-        let ap = rows::row_product(a[i], p, n);
-        let apat = rows::row_product_transposed(ap, a, n);
-        out[i] = rows::leading(rows::row_sum(apat, q[i]), r);
-    }
-    out
 }
 
 // z - H x, for an H of m rows and n columns
@@ -92,13 +112,11 @@ pub fn innovation<'a>(
 ) -> [f64; 4]
     ensures { result ≡ pad_row (innovation_of (count m) (count n) (part m n h.now) (front n x.now) (front m z.now)) }
 {
-    if number(n) == 4 {
-        if number(m) == 2 {
-            return four_states::innovation(h, x, z);
-        }
+    if let (Size::Four, Size::Two) = (n, m) {
+        at_sizes::innovation(h, x, z, Size::Two, Size::Four)
+    } else {
+        at_sizes::innovation(h, x, z, m, n)
     }
-    let hx = rows::row_product_transposed(*x, h, n);
-    rows::leading(rows::row_difference(*z, hx), m)
 }
 
 // P Hᵀ × W, for an H of m rows and n columns: a filter's gain, and a smoother's, whose H is the transition
@@ -111,18 +129,11 @@ pub fn gain<'a>(
 ) -> [[f64; 4]; 4]
     ensures { result ≡ pad (gain_of (count n) (count m) (part n n p.now) (part m n h.now) (part m m w.now)) }
 {
-    let rows = number(n);
-    if number(m) == 4 {
-        if rows == 4 {
-            return four_states::gain_four(p, h, w);
-        }
+    if let (Size::Four, Size::Four) = (n, m) {
+        four_states::gain_four(p, h, w)
+    } else {
+        at_sizes::gain(p, h, w, n, m)
     }
-    let mut out = [[0.0; 4]; 4];
-    for i in 0..rows {
-        let pht = rows::row_product_transposed(p[i], h, n);
-        out[i] = rows::leading(rows::row_product(pht, w, m), m);
-    }
-    out
 }
 
 // x + K y
@@ -135,13 +146,11 @@ pub fn corrected_state<'a>(
 ) -> [f64; 4]
     ensures { result ≡ pad_row (corrected_state (count n) (count m) (part n m k.now) (front m y.now) (front n x.now)) }
 {
-    if number(n) == 4 {
-        if number(m) == 2 {
-            return four_states::corrected_state(k, y, x);
-        }
+    if let (Size::Four, Size::Two) = (n, m) {
+        at_sizes::corrected_state(k, y, x, Size::Four, Size::Two)
+    } else {
+        at_sizes::corrected_state(k, y, x, n, m)
     }
-    let ky = rows::row_product_transposed(*y, k, m);
-    rows::leading(rows::row_sum(*x, ky), n)
 }
 
 // (I - K H) × P
@@ -154,10 +163,9 @@ pub fn corrected_covariance<'a>(
 ) -> [[f64; 4]; 4]
     ensures { result ≡ pad (corrected_covariance (count n) (count m) (part n m k.now) (part m n h.now) (part n n p.now)) }
 {
-    let rows = number(n);
     let e = kernel::identity_rows();
     let mut out = [[0.0; 4]; 4];
-    for i in 0..rows {
+    for i in 0..usize::from(n) {
         let kh = rows::row_product(k[i], h, m);
         let rest = rows::row_difference(e[i], kh);
         out[i] = rows::leading(rows::row_product(rest, p, n), n);
@@ -165,7 +173,8 @@ pub fn corrected_covariance<'a>(
     out
 }
 
-// ---- the steps of the linear filter
+// ---- the steps of the linear filter. Its matrices are lent one by one: a record of borrowed rows would be made anew at each
+// call, which is no plainer.
 
 // x and p one step on, with the input u.
 pub fn predict<'a>(
@@ -185,8 +194,8 @@ pub fn predict<'a>(
     *p = propagated(a, p, q, n, n);
 }
 
-// x and p corrected by the measurement z; the innovation is z less H times the state before. Refused with 3: inversion rejects
-// H P Hᵀ + R.
+// x and p corrected by the measurement z; the innovation is z less H times the state before. Refused as singular: inversion
+// rejects H P Hᵀ + R.
 pub fn update<'a>(
     h: &'a [[f64; 4]; 4],
     r: &'a [[f64; 4]; 4],
@@ -195,27 +204,18 @@ pub fn update<'a>(
     m: Size,
     x: &mut [f64; 4],
     p: &mut [[f64; 4]; 4],
-) -> VectorResult
+) -> Result<[f64; 4], Refusal>
     ensures { (result, (x.new, p.new))
         ≡ update_rows n m h.now r.now z.now x.old p.old }
 {
-    if number(n) == 4 {
-        if number(m) == 2 {
-            return four::update(h, r, z, x, p);
-        }
+    if let (Size::Four, Size::Two) = (n, m) {
+        return four::update(h, r, z, x, p);
     }
     let s = propagated(h, p, r, m, n);
-    let w = inverse::inverse_of(&s, m);
-    let status = w.status;
-    match status {
-        Status::Done => {
-            let rows = matrix::rows_of(w);
-            let y = innovation(h, x, z, m, n);
-            let k = gain(p, h, &rows, n, m);
-            *x = corrected_state(&k, &y, x, n, m);
-            *p = corrected_covariance(&k, h, p, n, m);
-            matrix::vector_result(Status::Done, y)
-        }
-        Status::Refused(number) => matrix::vector_refused(number),
-    }
+    let w = inverse::inverse_of(&s, m)?;
+    let y = innovation(h, x, z, m, n);
+    let k = gain(p, h, &w, n, m);
+    *x = corrected_state(&k, &y, x, n, m);
+    *p = corrected_covariance(&k, h, p, n, m);
+    Ok(y)
 }

@@ -1,18 +1,14 @@
--- `cholesky` meets its contract: a number that is a size goes to `factor_of`, any other is refused with 1.
+-- `cholesky` meets its contract: a number that is a size goes to `factor_of`.
 use Prim.Native.Nat.{ℕ}
-use mathlib.Core.Path.{sym, ap, ◌∙◌}
+use mathlib.Core.Path.{ap, ◌∙◌}
 use Rattle.algebra.specs.Array.{used}
 use Rattle.algebra.specs.Cholesky.{cholesky}
 use Rattle.matrix.specs.Result.{as_matrix}
-use Rattle.sizes.proofs.Sizes.{is_count}
-use Rattle.matrix.proofs.Results.{if_answered, if_refused}
+use Rattle.matrix.proofs.Results.{size_given, if_answered}
 use Rattle.cholesky.proofs.cholesky.Goals as goal
 
-pub returns-then-is_size : goal.returns-then-is_size
-returns-then-is_size c =
+pub returns : goal.returns
+returns c =
     let a = c.args in
-    let sized = sym c.is_size.ensures ∙ c.if-is_size.true in
-    if_answered as_matrix _ sized (c.factor_of.ensures ∙ ap (λ (k : ℕ). as_matrix (cholesky k (used k k a.a))) (is_count sized c.size_of.ensures))
-
-pub returns-else-is_size : goal.returns-else-is_size
-returns-else-is_size c = if_refused as_matrix _ (sym c.is_size.ensures ∙ c.if-is_size.false) c.matrix_refused.ensures
+    let s = size_given _ c.try_from.ensures c.in_ok-try_from.was in
+    if_answered as_matrix _ s.passed (c.factor_of.ensures ∙ ap (λ (k : ℕ). as_matrix (cholesky k (used k k a.a))) s.size)

@@ -1,24 +1,14 @@
 -- `inverse_of` meets its contract: by its size.
-use mathlib.Core.Path.{◌∙◌}
-use native.Mathlib.Omega.{arith}
+use mathlib.Core.Path.{sym, ap, ◌∙◌}
 use Rattle.algebra.specs.Array.{cut, used}
-use Rattle.sizes.proofs.Sizes.{is_one, exactly}
+use Rattle.sizes.specs.Size.{count}
 use Rattle.inverse.proofs.Elimination.{inv_at}
 use Rattle.inverse.proofs.inverse_of.Goals as goal
 
-pub returns-then-k-lt2 : goal.returns-then-k-lt2
+pub returns-in-One : goal.returns-in-One
 unfolding used cut
-returns-then-k-lt2 c =
-    let a = c.args in
-    c.inverse_one.ensures ∙ inv_at a.a.now (is_one a.n c.number-k.ensures c.if-k-lt2.true)
+returns-in-One c = c.of_one.ensures ∙ inv_at c.args.a.now (ap count (sym c.in-One.is))
 
-pub returns-then-k-lt3 : goal.returns-then-k-lt3
+pub returns-in-Two : goal.returns-in-Two
 unfolding used cut
-returns-then-k-lt3 c =
-    c.rows_two.ensures ∙ c.inverse_two.ensures ∙ inv_at c.args.a.now (exactly 2 c.number-k.ensures c.if-k-lt2.false c.if-k-lt3.true)
-
-pub eliminate-requires : goal.eliminate-requires
-eliminate-requires c = omega (arith, c.number-k.ensures, c.if-k-lt3.false)
-
-pub returns : goal.returns
-returns c = c.eliminate.ensures
+returns-in-Two c = c.of_two.ensures ∙ inv_at c.args.a.now (ap count (sym c.in-Two.is))

@@ -28,19 +28,4 @@ pub returns : goal.returns
 returns c =
     let x = c.args in
     let r = searching-all c.loop-i.invariant.1 (omega (arith, c.loop-i.invariant.0)) in
-    (r.0 ∙ ap (λ (n : ℕ). pivot_row x.a.now x.col (n - suc x.col)) c.number-rows.ensures, omega (arith, r, c.number-rows.ensures))
-
-pub offset_bounds-a-col : goal.offset_bounds-a-col
-offset_bounds-a-col c = omega (arith, bounds c.args.n)
-
-pub offset_bounds-a-col-2 : goal.offset_bounds-a-col-2
-offset_bounds-a-col-2 c = omega (arith, bounds c.args.n)
-
-pub bounds-a-col : goal.bounds-a-col
-bounds-a-col c = omega (arith, bounds c.args.n)
-
-pub bounds-a-col-2 : goal.bounds-a-col-2
-bounds-a-col-2 c = omega (arith, bounds c.args.n)
-
-pub overflow_step-i : goal.overflow_step-i
-overflow_step-i c = omega (arith, bounds c.args.n)
+    (r.0 ∙ ap (λ (n : ℕ). pivot_row x.a.now x.col (n - suc x.col)) c.from-rows.ensures, omega (arith, r, c.from-rows.ensures))

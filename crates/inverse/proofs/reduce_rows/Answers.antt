@@ -1,7 +1,6 @@
 -- `reduce_rows` meets its contract: the loop has replaced the rows passed, all but row col, and left the others.
-use Prim.Native.Nat.{◌-◌}
 use native.Mathlib.Omega.{arith}
-use Rattle.inverse.proofs.Rows.{reducing-none, reducing-stored, reducing-kept, reducing-all}
+use Rattle.inverse.proofs.Rows.{reducing-stored, reducing-kept, reducing-all}
 use Rattle.inverse.proofs.reduce_rows.Goals as goal
 use Rattle.inverse.proofs.reduce_rows.Goals.{then-i-col, else-i-col}
 
@@ -15,6 +14,3 @@ loop-i-preserved c =
 
 pub returns : goal.returns
 returns c = reducing-all c.loop-i.invariant c.requires.1 (omega arith)
-
-pub loop-i-init : goal.loop-i-init
-loop-i-init c = reducing-none _ _ _

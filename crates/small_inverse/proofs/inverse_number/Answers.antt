@@ -1,12 +1,14 @@
--- `inverse_number` meets its contract: by the test of the pivot.
+-- `inverse_number` meets its contract: by one over its pivot.
 use mathlib.Core.Path.{sym, ap, ◌∙◌}
-use Rattle.matrix.specs.Result.{as_scalar}
-use Rattle.answer.proofs.Answers.{if_true, if_false}
+use Rattle.answer.specs.Answer.{mapped}
+use Rattle.scalar.specs.Number.{◌⊗◌, one}
 use Rattle.small_inverse.proofs.Two.{inv_number_is}
+use Rattle.small_inverse.proofs.Exits.{exit}
 use Rattle.small_inverse.proofs.inverse_number.Goals as goal
 
-pub returns-then-no_pivot : goal.returns-then-no_pivot
-returns-then-no_pivot c = ap as_scalar (sym (inv_number_is _ ∙ if_true _ _ (sym c.no_pivot.ensures ∙ c.if-no_pivot.true)))
+pub returns-in_err-over : goal.returns-in_err-over
+returns-in_err-over c =
+    exit c.from_residual.ensures.1 ∙ sym (inv_number_is _ ∙ ap (mapped (λ s. one ⊗ s)) (sym c.over.ensures ∙ c.in_err-over.was))
 
-pub returns-else-no_pivot : goal.returns-else-no_pivot
-returns-else-no_pivot c = ap as_scalar (sym (inv_number_is _ ∙ if_false _ _ (sym c.no_pivot.ensures ∙ c.if-no_pivot.false)))
+pub returns : goal.returns
+returns c = sym (inv_number_is _ ∙ ap (mapped (λ s. one ⊗ s)) (sym c.over.ensures ∙ c.in_ok-over.was))

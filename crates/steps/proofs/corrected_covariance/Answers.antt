@@ -1,19 +1,14 @@
 -- `corrected_covariance` meets its contract: a loop over the rows, each made by itself.
-use Prim.Native.Nat.{ℕ, ◌-◌, ◌<◌}
+use Prim.Native.Nat.{ℕ, ◌<◌}
 use native.Mathlib.Omega.{arith}
 use mathlib.Core.Path.{subst}
-use Rattle.algebra.proofs.Arrays.{rows_none, rows_more, rows_all}
+use Rattle.algebra.proofs.Arrays.{rows_more, rows_all}
 use Rattle.sizes.specs.Size.{count}
 use Rattle.sizes.proofs.Sizes.{bounds}
 use Rattle.rows.proofs.RowWise.{rows_are}
 use Rattle.filtering.proofs.Shapes.{shape-corrected_covariance}
 use Rattle.four_states.proofs.Parts.{corrected-row}
 use Rattle.steps.proofs.corrected_covariance.Goals as goal
-
-pub loop-i-init : goal.loop-i-init
-loop-i-init c =
-    let e = c.number-rows.ensures in
-    ((e, omega (arith, e, bounds c.args.n)), rows_none _ _)
 
 pub loop-i-preserved : goal.loop-i-preserved
 loop-i-preserved c =

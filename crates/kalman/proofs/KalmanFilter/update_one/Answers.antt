@@ -1,11 +1,16 @@
 -- `update_one` meets its contract: what `update` tells, read as a number.
-use Rattle.kalman.proofs.One.{one-answered, one-refused}
+use mathlib.Core.Path.{sym, ◌∙◌}
+use Rattle.answer.specs.Answer.{mapped}
+use Rattle.algebra.specs.Matrix.{at}
+use Rattle.kalman.proofs.One.{one_step}
 use Rattle.kalman.proofs.KalmanFilter.update_one.Goals as goal
 
-pub returns-in-Done : goal.returns-in-Done
-returns-in-Done c =
-    one-answered c.args.self c.args.z c.update-u.ensures c.in-Done.is
+pub returns-in-Ok : goal.returns-in-Ok
+returns-in-Ok c =
+    let u = c.update-answer in
+    (λ k. record { answer = mapped (λ y. at y 0) (sym c.in-Ok.is k); left = u.result.left }) ∙ one_step c.args.self c.args.z u.ensures
 
-pub returns-in-Refused : goal.returns-in-Refused
-returns-in-Refused c =
-    one-refused c.args.self c.args.z c.update-u.ensures c.in-Refused.is
+pub returns-in-Err : goal.returns-in-Err
+returns-in-Err c =
+    let u = c.update-answer in
+    (λ k. record { answer = mapped (λ y. at y 0) (sym c.in-Err.is k); left = u.result.left }) ∙ one_step c.args.self c.args.z u.ensures
