@@ -3,7 +3,8 @@ use mathlib.Core.Path.{◌≡◌, refl, ap, ◌∙◌}
 use mathlib.Core.Bool.{Bool}
 use mathlib.Core.List.{List}
 use lib.ListN.{length}
-use Rattle.answer.specs.Answer.{Answer, refused, answered, mapped, if_sized}
+use Rattle.std.specs.Prelude.{Ok, Err}
+use Rattle.answer.specs.Answer.{Answer, mapped, if_sized}
 use Rattle.answer.proofs.Choice.{and_right}
 use Rattle.filtering.specs.Filter.{Estimate}
 use Rattle.layout.specs.Layout.{matrix_at}
@@ -19,10 +20,10 @@ use Rattle.c_smoothers.specs.Call.{SliceCall, duty, run}
 
 module _ (c : SliceCall) where
   answers : (a : Answer (List Estimate)) → smooth (duty c) ≡ a → mapped (pairs_of c.n c.count) (mapped (output_of c.n c.room) a) ≡ a
-  answers (refused k) p = refl
-  answers (answered r) p =
+  answers (Err k) p = refl
+  answers (Ok r) p =
       let sizes = smoothable_of (length c.slots) (length c.output) c.n c.room c.count (and_right (is_square c.n (length c.transition)) _ c.right) in
-      ap answered (read_back c.n c.room c.count (matrix_at c.n c.n c.transition 0) c.slots r p sizes.buffer.sizes.within)
+      ap Ok (read_back c.n c.room c.count (matrix_at c.n c.n c.transition 0) c.slots r p sizes.buffer.sizes.within)
 
   call_is_smooth : run c ≡ smooth (duty c)
   call_is_smooth =

@@ -1,44 +1,91 @@
 // src/estimator/rts_smoother.rs on slices that the caller lends: state size n, room for slots in one slice, and a count that the
 // caller keeps. A pair is a state and its covariance by rows; a slot is the filtered pair and the predicted one. A store and a
-// slot handed out are copies. Refused with 1: a size, a count above room, or a slice of another length.
+// slot handed out are copies. Refused with 1: a size, a count above room, or a slice of another length. A call tells a number, for C.
 #![tactic(auto)]
 
-ghost use Rattle.std.specs.Prelude.{◌≡◌, ◌&&◌, ◌≤◌, length};
+ghost use Rattle.std.specs.Prelude.{◌≡◌, ◌≤◌, length};
+ghost use Rattle.answer.specs.Answer.{where_sized};
 ghost use Rattle.answer.specs.Told.{given};
-ghost use Rattle.duty.specs.Buffer.{buffered};
+ghost use Rattle.sizes.specs.Size.{size_of};
+ghost use Rattle.duty.specs.Passed.{smooth_left};
 ghost use Rattle.smoothing.specs.Demand3.{Demand3};
 ghost use Rattle.c_smoothers.specs.Call.{duty, run};
-ghost use Rattle.c_smoothers.specs.Smoother.{is_pairs, is_square, store_in, slot_in, smooth_in};
+ghost use Rattle.c_smoothers.specs.Smoother.{is_pairs, is_square, storable, readable, store_in, slot_in, smooth_in};
 
-use duty::{is_buffered, stride_of};
-use sizes::{both, size_of};
+use answer::{Refusal, number_of};
+use duty::{Room, pair_length, stride};
+use sizes::Size;
 
-// ---- sizes
+// ---- sizes: the state size, or the refusal
 
 // A slice of len numbers is just k pairs.
-fn is_pairs(n: usize, k: usize, len: usize) -> bool
+fn pairs(n: usize, k: usize, len: usize) -> Result<Size, Refusal>
     requires { k ≤ 2 }
-    ensures { result ≡ is_pairs n k len }
+    ensures { result ≡ where_sized (is_pairs n k len) (size_of n) }
 {
-    if sizes::is_size(n) {
-        len == k * (n + n * n)
+    let size = Size::try_from(n)?;
+    if len == k * pair_length(size) {
+        Ok(size)
     } else {
-        false
+        Err(Refusal::WrongSize)
     }
 }
 
 // A slice of len numbers is just n rows of n.
-fn is_square(n: usize, len: usize) -> bool
-    ensures { result ≡ is_square n len }
+fn square(n: usize, len: usize) -> Result<Size, Refusal>
+    ensures { result ≡ where_sized (is_square n len) (size_of n) }
 {
-    if sizes::is_size(n) {
-        len == n * n
+    let size = Size::try_from(n)?;
+    if len == n * n {
+        Ok(size)
     } else {
-        false
+        Err(Refusal::WrongSize)
     }
 }
 
+// A pair, another pair, and the slots.
+fn storable(room: Room, slots: usize, filtered: usize, predicted: usize) -> Result<Size, Refusal>
+    ensures { result ≡ where_sized (storable room.n room.room room.count slots filtered predicted) (size_of room.n) }
+{
+    pairs(room.n, 1, filtered)?;
+    pairs(room.n, 1, predicted)?;
+    room.buffered(slots)
+}
+
+// A slot, and the slots.
+fn readable(room: Room, slots: usize, slot: usize) -> Result<Size, Refusal>
+    ensures { result ≡ where_sized (readable room.n room.room room.count slots slot) (size_of room.n) }
+{
+    pairs(room.n, 2, slot)?;
+    room.buffered(slots)
+}
+
 // ---- the calls
+
+fn store(
+    n: usize,
+    room: usize,
+    count: &mut usize,
+    slots: &mut [f64],
+    filtered: &[f64],
+    predicted: &[f64],
+) -> Result<(), Refusal>
+    ensures { (result, (count.new, slots.new)) ≡ smooth_left (λ w. w) (count.old, slots.old)
+        (store_in n room count.old slots.old filtered.now predicted.now) }
+{
+    let c = *count;
+    let lent = Room { n, room, count: c };
+    let size = storable(lent, slots.len(), filtered.len(), predicted.len())?;
+    if c < room {
+        let at = c * stride(size);
+        layout::put_slice(slots, at, filtered);
+        layout::put_slice(slots, at + filtered.len(), predicted);
+        *count = c + 1;
+        Ok(())
+    } else {
+        Err(Refusal::BufferFull)
+    }
+}
 
 // One slot more, after those stored, and the count one more. Refused with 5: the count is the room.
 pub fn rts_smoother_store_forward(
@@ -52,23 +99,21 @@ pub fn rts_smoother_store_forward(
     ensures { (result, (count.new, slots.new)) ≡ given (count.old, slots.old)
         (store_in n room count.old slots.old filtered.now predicted.now) }
 {
-    let c = *count;
-    let pairs = both(
-        is_pairs(n, 1, filtered.len()),
-        is_pairs(n, 1, predicted.len()),
-    );
-    if both(pairs, is_buffered(slots.len(), n, room, c)) {
-        if c < room {
-            let at = c * stride_of(n);
-            layout::put_slice(slots, at, filtered);
-            layout::put_slice(slots, at + filtered.len(), predicted);
-            *count = c + 1;
-            0
-        } else {
-            5
-        }
+    number_of(store(n, room, count, slots, filtered, predicted))
+}
+
+fn get_state(lent: Room, slots: &[f64], k: usize, out: &mut [f64]) -> Result<(), Refusal>
+    ensures { (result, out.new) ≡ smooth_left (λ l. l) out.old (slot_in lent.n lent.room lent.count slots.now k (length out.old)) }
+{
+    let size = readable(lent, slots.len(), out.len())?;
+    if k < lent.count {
+        let slot = stride(size);
+        let from = k * slot;
+        let end = from + slot;
+        layout::put_slice(out, 0, &slots[from..end]);
+        Ok(())
     } else {
-        1
+        Err(Refusal::IndexOutOfRange)
     }
 }
 
@@ -83,22 +128,16 @@ pub fn rts_smoother_get_state(
 ) -> u8
     ensures { (result, out.new) ≡ given out.old (slot_in n room count slots.now k (length out.old)) }
 {
-    if both(
-        is_pairs(n, 2, out.len()),
-        is_buffered(slots.len(), n, room, count),
-    ) {
-        if k < count {
-            let stride = stride_of(n);
-            let from = k * stride;
-            let end = from + stride;
-            layout::put_slice(out, 0, &slots[from..end]);
-            0
-        } else {
-            6
-        }
-    } else {
-        1
-    }
+    number_of(get_state(Room { n, room, count }, slots, k, out))
+}
+
+fn smooth(lent: Room, slots: &[f64], transition: &[f64], output: &mut [f64]) -> Result<(), Refusal>
+    ensures { (result, output.new) ≡ smooth_left (λ l. l) output.old
+        (smooth_in lent.n lent.room lent.count slots.now transition.now (length output.old)) }
+{
+    let size = square(lent.n, transition.len())?;
+    let f = layout::matrix_at(transition, 0, size, size);
+    rts_pass::smooth(slots, lent, f, output)
 }
 
 // The smoothed pairs of the stored slots into output, and +0 past them. Refused with 2: no slot; with 3: inversion rejects the
@@ -114,16 +153,10 @@ pub fn rts_smoother_smooth(
     ensures { (result, output.new) ≡ given output.old
         (smooth_in n room count slots.now transition.now (length output.old)) }
 {
-    if is_square(n, transition.len()) {
-        let s = size_of(n);
-        let f = layout::matrix_at(transition, 0, s, s);
-        answer::number_of(rts_pass::smooth(slots, n, room, count, f, output))
-    } else {
-        1
-    }
+    number_of(smooth(Room { n, room, count }, slots, transition, output))
 }
 
-// A promise: nothing is done, and the crate is not proved without demand 3 of `rts_smoother_smooth`, which the name for C forwards to.
+// A promise: nothing is done, and the crate is not proved without demand 3 of `rts_smoother_smooth`, which has a name for C.
 pub fn demand3_of_slices()
     ensures { Demand3 duty run }
 {}

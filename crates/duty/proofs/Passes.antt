@@ -7,16 +7,14 @@ use native.Mathlib.Omega.{arith}
 use lib.ListN.{length, drop, drop_of_length-le}
 use lib.Seq.{drop-cons}
 use lib.Ieee.{Float}
-use Rattle.answer.specs.declared.Status.{Status}
-use Rattle.answer.specs.declared.Status.TheVariants.{Done, Refused}
-use Rattle.answer.specs.Answer.{Answer, refused, answered, mapped}
-use Rattle.answer.specs.Told.{status_of}
-use Rattle.answer.proofs.Answers.{differ, same_answer}
+use Rattle.std.specs.Prelude.{Ok, Err}
+use Rattle.answer.specs.declared.Refusal.{Refusal}
+use Rattle.answer.specs.Answer.{Answer, mapped}
+use Rattle.answer.proofs.Answers.{differ, same-refusal, same_answer}
 use Rattle.answer.proofs.Tables.{length-table, get_or-table}
 use Rattle.algebra.specs.Matrix.{Matrix}
 use Rattle.algebra.proofs.Matrices.{shape-add}
 use Rattle.algebra.proofs.Vectors.{length-vec_add}
-use Rattle.matrix.proofs.Results.{done_not_refused}
 use Rattle.filtering.specs.Filter.{Estimate, corrected_state}
 use Rattle.smoothing.specs.Backward.{Results, listed, back, pass}
 use Rattle.smoothing.specs.Smoother.{Slot, slot_gain, smoothed_state, smoothed_covariance, smoothed_pair, smooth_slot, smooth_slots}
@@ -26,7 +24,7 @@ use Rattle.layout.specs.Layout.{joined, placed, pair_length, stride}
 use Rattle.layout.proofs.Places.{placed-none, placed-before}
 use Rattle.layout.proofs.Rows.{ends-within}
 use Rattle.duty.specs.Buffer.{pair_at, slot_from, slot_at, slots_of, pair_numbers}
-use Rattle.duty.specs.Passed.{smooth_left, Passed}
+use Rattle.duty.specs.Passed.{told_of, smooth_left, Passed}
 use Rattle.duty.proofs.Pairs.{Paired, length-pair, paired_at}
 
 abbrev start : Slot → Estimate
@@ -36,31 +34,31 @@ pub paired-smoothed : (n : ℕ) (s : Slot) (G : Matrix) (e : Estimate) → Paire
 unfolding smoothed_pair smoothed_state smoothed_covariance corrected_state
 paired-smoothed n s G e = record { state = length-vec_add n _ _; covariance = shape-add n n _ _ }
 
-paired-slot : (n : ℕ) (F : Matrix) (s : Slot) (next : Estimate) {e : Estimate} → smooth_slot n F s next ≡ answered e → Paired n e
+paired-slot : (n : ℕ) (F : Matrix) (s : Slot) (next : Estimate) {e : Estimate} → smooth_slot n F s next ≡ Ok e → Paired n e
 paired-slot n F s next q = let g = slot_gained n F s next q in subst (Paired n) g.pair (paired-smoothed n s g.gain next)
 
--- ---- a status t tells of an answer a
-pub told-done : {A : Type 0} (a : Answer A) {t : Status} → t ≡ status_of a → t ≡ Done → (r : A) × (a ≡ answered r)
-told-done (refused k) e d = absurd (done_not_refused (sym d ∙ e))
-told-done (answered r) e d = (r, refl)
+-- ---- what is told, t, of an answer a
+pub told-done : {A : Type 0} (a : Answer A) {t : Answer Unit} {u : Unit} → t ≡ told_of a → t ≡ Ok u → (r : A) × (a ≡ Ok r)
+told-done (Err k) e d = absurd (differ (sym e ∙ d))
+told-done (Ok r) e d = (r, refl)
 
-pub told-refused : {A : Type 0} (a : Answer A) {t : Status} {k : ℕ} → t ≡ status_of a → t ≡ Refused k → a ≡ refused k
-told-refused (refused j) {k = k} e d = let z : ◌≡◌ {A = Status} (Refused j) (Refused k) = sym e ∙ d in ap refused cc
-told-refused (answered r) e d = absurd (done_not_refused (sym e ∙ d))
+pub told-refused : {A : Type 0} (a : Answer A) {t : Answer Unit} {k : Refusal} → t ≡ told_of a → t ≡ Err k → a ≡ Err k
+told-refused (Err j) e d = ap Err (same-refusal (sym e ∙ d))
+told-refused (Ok r) e d = absurd (differ (sym d ∙ e))
 
 -- beside what stands in a place that held x
 module _ {A X : Type 0} (put : A → X) (x : X) where
-  left-told : (a : Answer A) → (smooth_left put x a).0 ≡ status_of a
-  left-told (refused k) = refl
-  left-told (answered r) = refl
+  left-told : (a : Answer A) → (smooth_left put x a).0 ≡ told_of a
+  left-told (Err k) = refl
+  left-told (Ok r) = refl
 
-  pub left-done : (a : Answer A) {y : X} {t : Status} → (t, y) ≡ smooth_left put x a → t ≡ Done → (r : A) × (a ≡ answered r) × (y ≡ put r)
+  pub left-done : (a : Answer A) {y : X} {t : Answer Unit} {u : Unit} → (t, y) ≡ smooth_left put x a → t ≡ Ok u → (r : A) × (a ≡ Ok r) × (y ≡ put r)
   left-done a e d =
-      let (r, p) = told-done a (ap (λ (w : Status × X). w.0) e ∙ left-told a) d in
-      (r, p, ap (λ (w : Status × X). w.1) (e ∙ ap (smooth_left put x) p))
+      let (r, p) = told-done a (ap (λ (w : Answer Unit × X). w.0) e ∙ left-told a) d in
+      (r, p, ap (λ (w : Answer Unit × X). w.1) (e ∙ ap (smooth_left put x) p))
 
-  pub left-refused : (a : Answer A) {y : X} {t : Status} {k : ℕ} → (t, y) ≡ smooth_left put x a → t ≡ Refused k → a ≡ refused k
-  left-refused a e d = told-refused a (ap (λ (w : Status × X). w.0) e ∙ left-told a) d
+  pub left-refused : (a : Answer A) {y : X} {t : Answer Unit} {k : Refusal} → (t, y) ≡ smooth_left put x a → t ≡ Err k → a ≡ Err k
+  left-refused a e d = told-refused a (ap (λ (w : Answer Unit × X). w.0) e ∙ left-told a) d
 
 module _ (n : ℕ) (F : Matrix) (b : List Float) (c : ℕ) where
   -- slot k and those after it
@@ -77,7 +75,7 @@ module _ (n : ℕ) (F : Matrix) (b : List Float) (c : ℕ) where
     pub below : k < c
     pub fits : c * pair_length n ≤ length o₀
     pub after : List Estimate
-    pub is : back_from k ≡ answered (record { first = e; later = after })
+    pub is : back_from k ≡ Ok (record { first = e; later = after })
     pub paired : Paired n e
     pub numbers : o ≡ placed (suc k * pair_length n) (joined (map pair_numbers after)) o₀
     pub long : length o ≡ length o₀
@@ -117,7 +115,7 @@ module _ (n : ℕ) (F : Matrix) (b : List Float) (c : ℕ) where
       behind : drop (suc j) (slots_of n b c) ≡ slot_at n b k ∷ drop (suc k) (slots_of n b c)
       behind = ap (λ (m : ℕ). drop m (slots_of n b c)) ej ∙ from_slot k t.below
 
-      pub going_more : {e₁ : Estimate} {q : ℕ} {z : List Float} → smooth_slot n F s e ≡ answered e₁ → q ≡ k * pair_length n → z ≡ placed q (pair_numbers e) o → length z ≡ length o
+      pub going_more : {e₁ : Estimate} {q : ℕ} {z : List Float} → smooth_slot n F s e ≡ Ok e₁ → q ≡ k * pair_length n → z ≡ placed q (pair_numbers e) o → length z ≡ length o
           → Going o₀ j e₁ z
       going_more {e₁} d eq ez l =
           let d₁ = ap (λ (s : Slot). smooth_slot n F s e) (sym es) ∙ d in
@@ -131,25 +129,25 @@ module _ (n : ℕ) (F : Matrix) (b : List Float) (c : ℕ) where
             long = l ∙ t.long;
           }
 
-      pub going_stop : {m : ℕ} {z : List Float} → smooth_slot n F s e ≡ refused m → Passed (smooth_slots n F (slots_of n b c)) o₀ z (Refused m)
+      pub going_stop : {m : Refusal} {z : List Float} {r : Answer Unit} → smooth_slot n F s e ≡ Err m → r ≡ Err m → Passed (smooth_slots n F (slots_of n b c)) o₀ z r
       unfolding smooth_slots pass
-      going_stop {m} d =
-          let stop : back_from j ≡ refused m =
+      going_stop {m} d er =
+          let stop : back_from j ≡ Err m =
           ap (back start (slot_gain n F) (smoothed_pair n) (slot_at n b j)) behind
           ∙ back-refused n F (slot_at n b j) (slot_at n b k) (drop (suc k) (slots_of n b c)) t.is (ap (λ (s : Slot). smooth_slot n F s e) (sym es) ∙ d) in
-          let a : smooth_slots n F (slots_of n b c) ≡ refused m =
+          let a : smooth_slots n F (slots_of n b c) ≡ Err m =
           refused_from start (slot_gain n F) (smoothed_pair n) j (slots_of n b c) (omega (arith, t.below, length-table c (λ i. slot_at n b i)))
           (ap (pass start (slot_gain n F) (smoothed_pair n)) (from_slot j (omega (arith, t.below))) ∙ ap (mapped listed) stop) in
-          record { told = ap status_of (sym a); pairs = λ r h. absurd (differ (sym a ∙ h)) }
+          record { told = er ∙ ap told_of (sym a); pairs = λ r h. absurd (differ (sym a ∙ h)) }
 
     -- slot k is the first, and its pair is put
-    pub going_done : {z : List Float} → k ≡ 0 → z ≡ placed 0 (pair_numbers e) o → Passed (smooth_slots n F (slots_of n b c)) o₀ z Done
+    pub going_done : {z : List Float} → k ≡ 0 → z ≡ placed 0 (pair_numbers e) o → Passed (smooth_slots n F (slots_of n b c)) o₀ z (Ok tt)
     unfolding smooth_slots pass
     going_done {z} ek ez =
         let first : 0 ≡ k * pair_length n = omega arith ∙ ap (λ (m : ℕ). m * pair_length n) (sym ek) in
-        let a : smooth_slots n F (slots_of n b c) ≡ answered (e ∷ t.after) =
+        let a : smooth_slots n F (slots_of n b c) ≡ Ok (e ∷ t.after) =
         ap (pass start (slot_gain n F) (smoothed_pair n)) (from_slot 0 (omega (arith, t.below))) ∙ ap (mapped listed) (ap back_from (sym ek) ∙ t.is) in
         record {
-          told = ap status_of (sym a);
+          told = ap told_of (sym a);
           pairs = λ r q. put_front first ez ∙ ap₂ (λ (m : ℕ) (l : List Estimate). placed m (joined (map pair_numbers l)) o₀) (sym first) (same_answer (sym a ∙ q));
         }

@@ -1,14 +1,21 @@
 -- Laws of the sizes: what a test that was passed says, and that slots and buffers are small. Assumes nothing.
-use mathlib.Core.Path.{◌≡◌, ◌∙◌, subst⁻¹}
-use mathlib.Core.Bool.{true, ◌&&◌, cond}
+use mathlib.Core.Path.{◌≡◌, refl, sym, ap, ◌∙◌, subst⁻¹}
+use mathlib.Core.Bool.{Bool, true, false, ◌&&◌}
 use Prim.Native.Nat.{ℕ, ◌+◌, ◌*◌, ◌≤◌, ◌<◌}
 use native.Mathlib.Nat.{mul-le-mul_left, mul-le-mul_right}
 use native.Mathlib.Omega.{arith}
-use lib.Dec.{leb}
+use lib.Dec.{leb, eqb}
 use borrow.Author.Tests.{leb-true, eqb-true}
-use Rattle.answer.proofs.Choice.{cond-true, and_left, and_right}
-use Rattle.sizes.specs.Size.{sized}
-use Rattle.sizes.proofs.Sizes.{Bounds, bounds_of}
+use Rattle.std.specs.Prelude.{Ok, Err, IsErrAnd}
+use Rattle.std.proofs.lemmas.Bool.Decides.{nat_tests}
+use Rattle.std.proofs.lemmas.Result.{err_from_is_err_and}
+use Rattle.answer.specs.declared.Refusal.{Refusal}
+use Rattle.answer.specs.declared.Refusal.TheVariants.{WrongSize}
+use Rattle.answer.specs.Answer.{Answer, where_sized}
+use Rattle.answer.proofs.Choice.{and_left, and_right}
+use Rattle.sizes.specs.declared.Size.{Size}
+use Rattle.sizes.specs.Size.{count, size_of, sized}
+use Rattle.sizes.proofs.Sizes.{Bounds, bounds_of, is_count}
 use Rattle.layout.specs.Layout.{pair_length, stride}
 use Rattle.layout.proofs.Rows.{ends-within}
 use Rattle.duty.specs.Buffer.{roomy, counted, buffered}
@@ -33,6 +40,18 @@ counted_of n T c e =
       within = leb-true c T (and_right (leb 1 T && leb T 64) _ rest);
     }
 
+-- the same of a size s that a test gave
+pub record Given (t : Bool) (n : ℕ) (s : Size) : Type 0 where
+  pub passed : t ≡ true
+  pub size : count s ≡ n
+
+pub given : (t : Bool) (n : ℕ) {s : Size} {o : Answer Size} → (t ≡ true → sized n ≡ true) → o ≡ where_sized t (size_of n) → o ≡ Ok s → Given t n s
+given true n h p q = record { passed = refl; size = is_count (h refl) cc }
+given false n h p q = cc
+
+pub counted-given : (n T c : ℕ) {s : Size} {o : Answer Size} → o ≡ where_sized (counted n T c) (size_of n) → o ≡ Ok s → Given (counted n T c) n s
+counted-given n T c p q = given (counted n T c) n (λ e. (counted_of n T c e).size) p q
+
 pub record Buffered (m n T c : ℕ) : Type 0 where
   pub sizes : Counted n T c
   pub whole : m ≡ T * stride n
@@ -40,6 +59,9 @@ pub record Buffered (m n T c : ℕ) : Type 0 where
 pub buffered_of : (m n T c : ℕ) → buffered m n T c ≡ true → Buffered m n T c
 unfolding buffered
 buffered_of m n T c e = record { sizes = counted_of n T c (and_left _ _ e); whole = eqb-true m (T * stride n) (and_right (counted n T c) _ e) }
+
+pub buffered-given : (m n T c : ℕ) {s : Size} {o : Answer Size} → o ≡ where_sized (buffered m n T c) (size_of n) → o ≡ Ok s → Given (buffered m n T c) n s
+buffered-given m n T c p q = given (buffered m n T c) n (λ e. (buffered_of m n T c e).sizes.size) p q
 
 pub record Smoothable (m o n T c : ℕ) : Type 0 where
   pub buffer : Buffered m n T c
@@ -49,16 +71,47 @@ pub smoothable_of : (m o n T c : ℕ) → smoothable m o n T c ≡ true → Smoo
 unfolding smoothable
 smoothable_of m o n T c e = record { buffer = buffered_of m n T c (and_left _ _ e); output = eqb-true o (T * pair_length n) (and_right (buffered m n T c) _ e) }
 
+pub smoothable-given : (m o n T c : ℕ) {s : Size} {r : Answer Size} → r ≡ where_sized (smoothable m o n T c) (size_of n) → r ≡ Ok s → Given (smoothable m o n T c) n s
+smoothable-given m o n T c p q = given (smoothable m o n T c) n (λ e. (smoothable_of m o n T c e).buffer.sizes.size) p q
+
+-- where no size was given, the test failed
+pub unsized : {A : Type 0} (t : Bool) (x : A) {o : Answer A} {k : Refusal} → o ≡ where_sized t x → o ≡ Err k → (t ≡ false) × (k ≡ WrongSize)
+unsized true x p q = (cc, cc)
+unsized false x p q = (cc, cc)
+
+-- ---- a test u after a test t, by which o gave x
+module _ {A : Type 0} (x : A) {o : Answer A} where
+  still : (t u : Bool) {k : Refusal} → o ≡ where_sized t x → o ≡ Err k → Err k ≡ where_sized (t && u) x
+  still true u p q = cc
+  still false u p q = cc
+
+  -- r is what `?` returns
+  pub refused-before : (t u : Bool) {k : Refusal} {r : Answer A} → IsErrAnd r (λ e. e ≡ k) → o ≡ where_sized t x → o ≡ Err k → r ≡ where_sized (t && u) x
+  refused-before t u {r = r} e p q = let z = err_from_is_err_and r e in z.1 ∙ ap Err z.2 ∙ still t u p q
+
+  pub passed_after : (t u : Bool) {y : A} → o ≡ where_sized t x → o ≡ Ok y → u ≡ true → Ok y ≡ where_sized (t && u) x
+  passed_after true true p q e = cc
+  passed_after true false p q e = cc
+  passed_after false u p q e = cc
+
+  pub failed_after : (t u : Bool) {y : A} → o ≡ where_sized t x → o ≡ Ok y → u ≡ false → Err WrongSize ≡ where_sized (t && u) x
+  failed_after true true p q e = cc
+  failed_after true false p q e = cc
+  failed_after false u p q e = cc
+
+-- T parts of s numbers, which the code has as r, take m numbers, or another number
+pub just_parts : (m T : ℕ) {r s : ℕ} → r ≡ s → m ≡ T * r → eqb m (T * s) ≡ true
+just_parts m T e h = let h = h ∙ ap (λ (r : ℕ). T * r) e in grind (arith, nat_tests)
+
+pub other-parts : (m T : ℕ) {r s : ℕ} → r ≡ s → (m ≡ T * r → ⊥) → eqb m (T * s) ≡ false
+other-parts m T {s = s} e h = let h = λ (w : m ≡ T * s). h (w ∙ sym (ap (λ (r : ℕ). T * r) e)) in grind (arith, nat_tests)
+
 -- ---- slots and buffers are small
 pub square-small : {n : ℕ} → n ≤ 4 → n * n ≤ 16
 square-small {n} h = omega (arith, mul-le-mul_left n h)
 
 stride-small : {n : ℕ} → n ≤ 4 → stride n ≤ 40
 stride-small h = omega (arith, square-small h)
-
--- the stride as the code has it, where n is a size
-pub stride_is : (n : ℕ) {r : ℕ} → sized n ≡ true → r ≡ cond (sized n) (stride n) 0 → r ≡ stride n
-stride_is n t e = e ∙ cond-true (stride n) 0 t
 
 -- part k of c that take s numbers each, which the code has as r, in a buffer of m numbers
 pub part_room : {k c r m : ℕ} (s : ℕ) → k < c → c * s ≤ m → r ≡ s → k * r + s ≤ m

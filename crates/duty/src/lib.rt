@@ -1,64 +1,88 @@
-// The tests of the sizes of a duty in lent buffers, each one bool: how many states, slots and numbers. Slot k is 2n + 2n² numbers:
-// state, covariance by rows, predicted state, predicted covariance; a smoothed pair is n + n² numbers.
+// The sizes of a duty in lent buffers: how many states, slots and numbers. Slot k is 2n + 2n² numbers: state, covariance by rows,
+// predicted state, predicted covariance; a smoothed pair is n + n² numbers.
 #![tactic(auto)]
 
-ghost use Rattle.std.specs.Prelude.{◌≡◌, cond};
-ghost use Rattle.sizes.specs.Size.{sized};
-ghost use Rattle.layout.specs.Layout.{stride};
+ghost use Rattle.std.specs.Prelude.{◌≡◌, ◌&&◌, leb};
+ghost use Rattle.answer.specs.Answer.{where_sized};
+ghost use Rattle.sizes.specs.Size.{count, size_of};
+ghost use Rattle.layout.specs.Layout.{pair_length as pair_numbers_of, stride as stride_of};
 ghost use Rattle.duty.specs.Buffer.{roomy, counted, buffered, smoothable};
 ghost use Rattle.duty.specs.Promise.{Refusals};
 
+use answer::Refusal;
 use scalar::ControlScalar;
-use sizes::both;
+use sizes::Size;
 
 // A promise: nothing is done, and the crate is not proved without what Refusals states.
 pub fn smooth_refusals()
     ensures { Refusals }
 {}
 
-// Room for 1 to 64 slots.
-fn is_room(room: usize) -> bool
-    ensures { result ≡ roomy room }
+// How many numbers a pair takes.
+pub fn pair_length(n: Size) -> usize
+    ensures { result ≡ pair_numbers_of (count n) }
 {
-    both(1 <= room, room <= ControlScalar::MAX_SLOTS)
+    let states = usize::from(n);
+    states + states * states
 }
 
-// A state size, a room, and a count of slots that have room.
-pub fn is_counted(n: usize, room: usize, count: usize) -> bool
-    ensures { result ≡ counted n room count }
+// How many numbers a slot takes.
+pub fn stride(n: Size) -> usize
+    ensures { result ≡ stride_of (count n) }
 {
-    both(sizes::is_size(n), both(is_room(room), count <= room))
+    2 * pair_length(n)
 }
 
-// How many numbers a slot takes; 0 where n is no size.
-pub fn stride_of(n: usize) -> usize
-    ensures { result ≡ cond (sized n) (stride n) 0 }
-{
-    if sizes::is_size(n) {
-        2 * n + 2 * (n * n)
-    } else {
-        0
+// Room for `room` slots of state size n, of which the first `count` are stored. Each test gives the state size, or refuses with 1.
+#[derive(Clone, Copy, Debug, PartialEq, Eq)]
+pub struct Room {
+    pub n: usize,
+    pub room: usize,
+    pub count: usize,
+}
+
+impl Room {
+    // Room for 1 to 64 slots, and a count of slots that have room.
+    #[tactic(auto, using(std::proofs::lemmas::Bool::Decides::nat_tests), unfolding(crate::specs::Buffer::roomy))]
+    fn has_room(self) -> bool
+        ensures { result ≡ roomy self.room && leb self.count self.room }
+    {
+        1 <= self.room && self.room <= ControlScalar::MAX_SLOTS && self.count <= self.room
     }
-}
 
-// The sizes, and that a buffer of len numbers is just room slots long.
-pub fn is_buffered(len: usize, n: usize, room: usize, count: usize) -> bool
-    ensures { result ≡ buffered len n room count }
-{
-    if is_counted(n, room, count) {
-        len == room * stride_of(n)
-    } else {
-        false
+    // A state size, and the room.
+    pub fn counted(self) -> Result<Size, Refusal>
+        ensures { result ≡ where_sized (counted self.n self.room self.count) (size_of self.n) }
+    {
+        let size = Size::try_from(self.n)?;
+        if self.has_room() {
+            Ok(size)
+        } else {
+            Err(Refusal::WrongSize)
+        }
     }
-}
 
-// The sizes, and that an output of numbers is just room pairs long.
-pub fn is_smoothable(len: usize, numbers: usize, n: usize, room: usize, count: usize) -> bool
-    ensures { result ≡ smoothable len numbers n room count }
-{
-    if is_buffered(len, n, room, count) {
-        numbers == room * (n + n * n)
-    } else {
-        false
+    // The same, and a buffer of len numbers that is just so many slots long.
+    pub fn buffered(self, len: usize) -> Result<Size, Refusal>
+        ensures { result ≡ where_sized (buffered len self.n self.room self.count) (size_of self.n) }
+    {
+        let size = self.counted()?;
+        if len == self.room * stride(size) {
+            Ok(size)
+        } else {
+            Err(Refusal::WrongSize)
+        }
+    }
+
+    // The same, and an output of numbers that is just so many pairs long.
+    pub fn smoothable(self, len: usize, numbers: usize) -> Result<Size, Refusal>
+        ensures { result ≡ where_sized (smoothable len numbers self.n self.room self.count) (size_of self.n) }
+    {
+        let size = self.buffered(len)?;
+        if numbers == self.room * pair_length(size) {
+            Ok(size)
+        } else {
+            Err(Refusal::WrongSize)
+        }
     }
 }

@@ -1,17 +1,18 @@
--- Laws of loops that place rows or copy numbers, and of rows written out number by number. Assumes nothing.
+-- Laws of a loop that places rows, and of a row written out number by number. Assumes nothing.
 use mathlib.Core.Path.{◌≡◌, refl, sym, ap, ap₂, ◌∙◌}
-use mathlib.Core.List.{List, [], ◌∷◌, ◌++◌}
+use mathlib.Core.List.{List}
 use Prim.Native.Nat.{ℕ, ◌+◌, ◌*◌, ◌≤◌, ◌<◌}
 use native.Mathlib.Nat.{mul-le-mul_right, suc-mul}
 use native.Mathlib.Numerals.{add-one}
 use native.Mathlib.Omega.{arith}
-use lib.ListN.{length, set, take, drop, length-set}
-use lib.Seq.{take-length, paste, paste-zero, paste-suc}
-use lib.Ieee.{Float, nan}
+use lib.ListN.{length, set}
+use lib.Ieee.{Float}
 use Rattle.answer.specs.Table.{table}
 use Rattle.algebra.specs.Matrix.{at}
-use Rattle.algebra.specs.Array.{cut, pad_row}
-use Rattle.layout.specs.Layout.{vector_at, joined, placed}
+use Rattle.algebra.specs.Array.{cut}
+use Rattle.sizes.specs.declared.Size.{Size}
+use Rattle.sizes.specs.Size.{front}
+use Rattle.layout.specs.Layout.{joined, placed}
 use Rattle.layout.proofs.Places.{length-placed, placed-none, set-placed, placed-after, placed-next}
 use Rattle.layout.proofs.Rows.{joined-more, length-joined}
 
@@ -58,49 +59,12 @@ putting_all {k} {w} {f} {b} {n} {i} p h =
     let same : i ≡ n = omega arith in
     p.is ∙ ap (λ (j : ℕ). placed k (joined (table j f)) b) same
 
--- ---- a loop that copies
-
--- A loop has copied the first i numbers of a into b, from number k on, and has l: its invariant
-pub record Copying (k : ℕ) (a b : List Float) (i : ℕ) (l : List Float) : Type 0 where
-  pub within : i ≤ length a
-  pub fits : k + length a ≤ length b
-  pub is : l ≡ paste b k a i
-  pub long : length l ≡ length b
-
-pub copying_none : (k : ℕ) (a b : List Float) → k + length a ≤ length b → Copying k a b 0 b
-copying_none k a b h = record { within = omega arith; fits = h; is = paste-zero b k a; long = refl }
-
-pub copying_more : {k : ℕ} {a b l : List Float} {i : ℕ} → Copying k a b i l → i < length a → Copying k a b (i + 1) (set l (k + i) (at a i))
-copying_more {k} {a} {b} {l} {i} e h = record {
-  within = omega arith;
-  fits = e.fits;
-  is =
-      ap (λ (t : List Float). set t (k + i) (at a i)) e.is
-      ∙ paste-suc b k a i nan (omega (arith, e.fits)) h
-      ∙ ap (paste b k a) (sym (add-one i));
-  long = length-set l (k + i) (at a i) ∙ e.long;
-}
-
-pub copying_all : {k : ℕ} {a b l : List Float} {i : ℕ} → Copying k a b i l → length a ≤ i → l ≡ placed k a b
-unfolding placed
-copying_all {k} {a} {b} {l} {i} e h =
-    let same : i ≡ length a = omega arith in
-    e.is ∙ ap (paste b k a) same ∙ ap (λ (t : List Float). take k b ++ t ++ drop (k + length a) b) (take-length a)
-
 -- ---- numbers written out
-
--- n of the four numbers from number k on, where n is j
-pub read_out : (b : List Float) (k j : ℕ) {n : ℕ} → j ≡ n
-    → pad_row (cut j (at b (k + 0) ∷ at b (k + 1) ∷ at b (k + 2) ∷ at b (k + 3) ∷ [])) ≡ pad_row (vector_at j b k)
-    → pad_row (cut j (at b k ∷ at b (k + 1) ∷ at b (k + 2) ∷ at b (k + 3) ∷ [])) ≡ pad_row (vector_at n b k)
-read_out b k j e h =
-    let first : k ≡ k + 0 = omega arith in
-    ap (λ (i : ℕ). pad_row (cut j (at b i ∷ at b (k + 1) ∷ at b (k + 2) ∷ at b (k + 3) ∷ []))) first ∙ h ∙ ap (λ (m : ℕ). pad_row (vector_at m b k)) e
 
 -- the first one to four numbers of v, set in b one after another
 module _ (b v : List Float) (k : ℕ) where
-  pub written : {j n : ℕ} {l : List Float} → j ≡ n → l ≡ placed k (cut j v) b → l ≡ placed k (cut n v) b
-  written e h = h ∙ ap (λ (m : ℕ). placed k (cut m v) b) e
+  pub written : {s t : Size} {l : List Float} → s ≡ t → l ≡ placed k (front t v) b → l ≡ placed k (front s v) b
+  written e h = h ∙ ap (λ (n : Size). placed k (front n v) b) (sym e)
 
   pub write_one : k + 0 < length b → set b k (at v 0) ≡ placed k (cut 1 v) b
   unfolding cut

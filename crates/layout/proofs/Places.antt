@@ -1,19 +1,19 @@
 -- Laws of numbers placed in a slice: room for them, numbers placed after and before others, and what is read afterwards. Assumes nothing.
 use mathlib.Core.Path.{◌≡◌, refl, sym, ap, ap₂, ◌∙◌}
 use mathlib.Core.List.{List, [], ◌∷◌, ◌++◌, append_assoc, append-nil}
-use mathlib.Core.Bool.{Bool, true, false}
+use mathlib.Core.Bool.{true}
 use Prim.Native.Nat.{ℕ, suc, ◌+◌, ◌-◌, ◌≤◌, ◌<◌}
 use native.Mathlib.Numerals.{add-one}
 use native.Mathlib.Omega.{arith}
-use lib.Dec.{leb}
 use lib.ListN.{length, set, take, drop, length-append, length-take, length-drop, take-append-drop, get_or-append}
 use lib.Seq.{append_snoc, set_split, take_at, drop_at, drop-drop, drop-length, length-take-le, take-take, take-append-le, get_or-append-add, get_or-take, get_or-drop}
 use lib.Ieee.{Float, nan}
-use borrow.Author.Tests.{leb-true, leb-false, le-leb, lt-leb}
+use borrow.Rule.Slice.PartMut.{put_mid}
+use borrow.Author.Tests.{leb-true, le-leb}
 use Rattle.algebra.specs.Matrix.{at}
 use Rattle.layout.specs.Layout.{placed, room}
 
--- ---- room in a slice, and as the code tests it
+-- ---- room in a slice
 pub room-true : (k n m : ℕ) → k + n ≤ m → room k n m ≡ true
 unfolding room
 room-true k n m h = le-leb (k + n) m h
@@ -21,18 +21,6 @@ room-true k n m h = le-leb (k + n) m h
 pub room_of : (k n m : ℕ) → room k n m ≡ true → k + n ≤ m
 unfolding room
 room_of k n m e = leb-true (k + n) m e
-
-pub room-less : (k n m : ℕ) → n ≤ m → leb k (m - n) ≡ room k n m
-unfolding room
-room-less k n m h = same (leb k (m - n)) refl
-  where
-    same : (t : Bool) → leb k (m - n) ≡ t → t ≡ leb (k + n) m
-    same true e = let g = leb-true k (m - n) e in sym (le-leb (k + n) m (omega arith))
-    same false e = let g = leb-false k (m - n) e in sym (lt-leb (k + n) m (omega arith))
-
-pub room-none : (k n m : ℕ) → m < n → false ≡ room k n m
-unfolding room
-room-none k n m h = sym (lt-leb (k + n) m (omega arith))
 
 -- ---- numbers that are placed
 pub length-placed : (k : ℕ) (l b : List Float) → k + length l ≤ length b → length (placed k l b) ≡ length b
@@ -56,6 +44,14 @@ placed-whole l b e =
 pub set-placed : (k : ℕ) (x : Float) (b : List Float) → k < length b → set b k x ≡ placed k (x ∷ []) b
 unfolding placed
 set-placed k x b h = set_split b k x h ∙ sym (append_snoc (take k b) x (drop (suc k) b)) ∙ ap (λ (j : ℕ). take k b ++ (x ∷ []) ++ drop j b) (sym (add-one k))
+
+-- what a part of a slice is overwritten with, where m is l and n its length
+pub part-placed : {n : ℕ} (k : ℕ) (l b : List Float) {m : List Float} → m ≡ l → n ≡ length l → put_mid k n b m ≡ placed k l b
+unfolding placed
+part-placed k l b e h =
+    ap₂ (λ (m : List Float) (n : ℕ). put_mid k n b m) e h
+    ∙ ap (λ (t : List Float). take k b ++ (l ++ t)) (drop-drop (length l) k b)
+    ∙ sym (append_assoc (take k b) l (drop (k + length l) b))
 
 -- m right after l
 pub placed-after : (k : ℕ) (l m b : List Float) → k ≤ length b → placed (k + length l) m (placed k l b) ≡ placed k (l ++ m) b

@@ -38,12 +38,6 @@ length-rows r c A s =
 pub ends-within : {k n : ℕ} (w : ℕ) → k < n → k * w + w ≤ n * w
 ends-within {k} {n} w h = omega (arith, mul-le-mul_right w h, suc-mul k w)
 
--- the same from number k on in n numbers, where the code has m and w for the r rows of c numbers
-pub row_ends : (k i : ℕ) {m w r c n : ℕ} → m ≡ r → w ≡ c → k + r * c ≤ n → i < m → k + i * w + w ≤ n
-row_ends k i {m} {w} {r} {c} d e h p =
-    let same : i * w ≡ i * c = ap (λ (x : ℕ). i * x) e in
-    omega (arith, ends-within {k = i} {n = r} c (omega arith))
-
 -- row i, number j, of rows of c numbers
 at_joined : (c : ℕ) (A : Matrix) → ((k : ℕ) → k < length A → length (row A k) ≡ c) → (i j : ℕ) → i < length A → j < c → at (joined A) (i * c + j) ≡ cell A i j
 at_joined c [] h i j p q = absurd (not-suc-le-zero p)

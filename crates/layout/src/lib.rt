@@ -1,6 +1,6 @@
 // Vectors and matrices in a lent slice of numbers, a matrix by rows of its used size. A size is 1 to 4 by its type, and each
 // function tests that the numbers lie within the slice: a reading gives all +0 where not, and a writing leaves the slice as it was.
-#![tactic(auto)]
+#![tactic(auto, using(std::proofs::lemmas::Bool::Decides::nat_tests), unfolding(crate::specs::Layout::room))]
 
 ghost use Rattle.std.specs.Prelude.{◌≡◌, ◌++◌, ◌+◌, ◌*◌, ◌≤◌, length};
 ghost use Rattle.algebra.specs.Array.{pad_row, pad};
@@ -8,18 +8,18 @@ ghost use Rattle.sizes.specs.Size.{count, front, part};
 ghost use Rattle.layout.specs.Layout.{vector_at, matrix_at, joined, placed, room, vector_in, matrix_in, put_at};
 ghost use Rattle.layout.specs.Promise.{Layouts};
 
-use sizes::{Size, number};
+use sizes::Size;
 
 // A promise: nothing is done, and the crate is not proved without what Layouts states.
 pub fn layouts()
     ensures { Layouts }
 {}
 
-// n numbers from number k on lie within a slice of len numbers.
+// n numbers from number k on lie within a slice of len numbers. One test for readings and writings: `get` and `get_mut` are no plainer.
 fn is_room(k: usize, n: usize, len: usize) -> bool
     ensures { result ≡ room k n len }
 {
-    if n <= len { k <= len - n } else { false }
+    n <= len && k <= len - n
 }
 
 // ---- numbers out of a slice
@@ -29,25 +29,20 @@ fn read_vector(b: &[f64], k: usize, n: Size) -> [f64; 4]
     requires { k + count n ≤ length b.now }
     ensures { result ≡ pad_row (vector_at (count n) b.now k) }
 {
-    let numbers = number(n);
-    if numbers < 2 {
-        return [b[k], 0.0, 0.0, 0.0];
+    match n {
+        Size::One => [b[k], 0.0, 0.0, 0.0],
+        Size::Two => [b[k], b[k + 1], 0.0, 0.0],
+        Size::Three => [b[k], b[k + 1], b[k + 2], 0.0],
+        Size::Four => [b[k], b[k + 1], b[k + 2], b[k + 3]],
     }
-    if numbers < 3 {
-        return [b[k], b[k + 1], 0.0, 0.0];
-    }
-    if numbers < 4 {
-        return [b[k], b[k + 1], b[k + 2], 0.0];
-    }
-    [b[k], b[k + 1], b[k + 2], b[k + 3]]
 }
 
 fn read_matrix(b: &[f64], k: usize, r: Size, c: Size) -> [[f64; 4]; 4]
     requires { k + count r * count c ≤ length b.now }
     ensures { result ≡ pad (matrix_at (count r) (count c) b.now k) }
 {
-    let rows = number(r);
-    let columns = number(c);
+    let rows = usize::from(r);
+    let columns = usize::from(c);
     let mut out = [[0.0; 4]; 4];
     for i in 0..rows {
         out[i] = read_vector(b, k + i * columns, c);
@@ -59,7 +54,7 @@ fn read_matrix(b: &[f64], k: usize, r: Size, c: Size) -> [[f64; 4]; 4]
 pub fn vector_at(b: &[f64], k: usize, n: Size) -> [f64; 4]
     ensures { result ≡ pad_row (vector_in (count n) b.now k) }
 {
-    if is_room(k, number(n), b.len()) {
+    if is_room(k, usize::from(n), b.len()) {
         read_vector(b, k, n)
     } else {
         [0.0; 4]
@@ -70,7 +65,7 @@ pub fn vector_at(b: &[f64], k: usize, n: Size) -> [f64; 4]
 pub fn matrix_at(b: &[f64], k: usize, r: Size, c: Size) -> [[f64; 4]; 4]
     ensures { result ≡ pad (matrix_in (count r) (count c) b.now k) }
 {
-    if is_room(k, number(r) * number(c), b.len()) {
+    if is_room(k, usize::from(r) * usize::from(c), b.len()) {
         read_matrix(b, k, r, c)
     } else {
         [[0.0; 4]; 4]
@@ -83,28 +78,34 @@ fn write_vector(b: &mut [f64], k: usize, v: [f64; 4], n: Size)
     requires { k + count n ≤ length b.old }
     ensures { b.new ≡ placed k (front n v) b.old }
 {
-    let numbers = number(n);
-    b[k] = v[0];
-    if numbers < 2 {
-        return;
+    match n {
+        Size::One => {
+            b[k] = v[0];
+        }
+        Size::Two => {
+            b[k] = v[0];
+            b[k + 1] = v[1];
+        }
+        Size::Three => {
+            b[k] = v[0];
+            b[k + 1] = v[1];
+            b[k + 2] = v[2];
+        }
+        Size::Four => {
+            b[k] = v[0];
+            b[k + 1] = v[1];
+            b[k + 2] = v[2];
+            b[k + 3] = v[3];
+        }
     }
-    b[k + 1] = v[1];
-    if numbers < 3 {
-        return;
-    }
-    b[k + 2] = v[2];
-    if numbers < 4 {
-        return;
-    }
-    b[k + 3] = v[3];
 }
 
 fn write_matrix(b: &mut [f64], k: usize, m: &[[f64; 4]; 4], r: Size, c: Size)
     requires { k + count r * count c ≤ length b.old }
     ensures { b.new ≡ placed k (joined (part r c m.now)) b.old }
 {
-    let rows = number(r);
-    let columns = number(c);
+    let rows = usize::from(r);
+    let columns = usize::from(c);
     for i in 0..rows {
         write_vector(b, k + i * columns, m[i], c);
     }
@@ -114,7 +115,7 @@ fn write_matrix(b: &mut [f64], k: usize, m: &[[f64; 4]; 4], r: Size, c: Size)
 pub fn put_vector(b: &mut [f64], k: usize, v: [f64; 4], n: Size)
     ensures { b.new ≡ put_at k (front n v) b.old }
 {
-    if is_room(k, number(n), b.len()) {
+    if is_room(k, usize::from(n), b.len()) {
         write_vector(b, k, v, n);
     }
 }
@@ -123,7 +124,7 @@ pub fn put_vector(b: &mut [f64], k: usize, v: [f64; 4], n: Size)
 pub fn put_matrix(b: &mut [f64], k: usize, m: &[[f64; 4]; 4], r: Size, c: Size)
     ensures { b.new ≡ put_at k (joined (part r c m.now)) b.old }
 {
-    if is_room(k, number(r) * number(c), b.len()) {
+    if is_room(k, usize::from(r) * usize::from(c), b.len()) {
         write_matrix(b, k, m, r, c);
     }
 }
@@ -132,7 +133,7 @@ pub fn put_matrix(b: &mut [f64], k: usize, m: &[[f64; 4]; 4], r: Size, c: Size)
 pub fn put_pair(b: &mut [f64], k: usize, x: [f64; 4], p: &[[f64; 4]; 4], n: Size)
     ensures { b.new ≡ put_at k (front n x ++ joined (part n n p.now)) b.old }
 {
-    let states = number(n);
+    let states = usize::from(n);
     if is_room(k, states + states * states, b.len()) {
         write_vector(b, k, x, n);
         write_matrix(b, k + states, p, n, n);
@@ -143,10 +144,7 @@ pub fn put_pair(b: &mut [f64], k: usize, x: [f64; 4], p: &[[f64; 4]; 4], n: Size
 pub fn put_slice(b: &mut [f64], k: usize, l: &[f64])
     ensures { b.new ≡ put_at k l.now b.old }
 {
-    let n = l.len();
-    if is_room(k, n, b.len()) {
-        for i in 0..n {
-            b[k + i] = l[i];
-        }
+    if is_room(k, l.len(), b.len()) {
+        b[k..k + l.len()].copy_from_slice(l);
     }
 }

@@ -7,8 +7,9 @@ use native.Mathlib.Nat.{mul-le-mul_right}
 use native.Mathlib.Omega.{arith}
 use lib.ListN.{length, replicate, length-replicate}
 use lib.Ieee.{Float}
+use Rattle.std.specs.Prelude.{Ok, Err}
 use Rattle.scalar.specs.Number.{+0}
-use Rattle.answer.specs.Answer.{Answer, refused, answered, mapped, if_sized}
+use Rattle.answer.specs.Answer.{Answer, mapped, if_sized}
 use Rattle.answer.proofs.Tables.{table_ext}
 use Rattle.algebra.specs.Matrix.{Matrix}
 use Rattle.algebra.specs.Array.{used}
@@ -36,7 +37,7 @@ written_back n T r h f =
     ∙ pairs-back n r h 0 zeros (omega (arith, length-replicate (T * w) +0, mul-le-mul_right w f))
 
 -- the same of the duty in a buffer, where it is answered
-pub read_back : (n T c : ℕ) (F : Matrix) (b : List Float) (r : List Estimate) → smooth (duty_of n F b c) ≡ answered r → c ≤ T → pairs_of n c (output_of n T r) ≡ r
+pub read_back : (n T c : ℕ) (F : Matrix) (b : List Float) (r : List Estimate) → smooth (duty_of n F b c) ≡ Ok r → c ≤ T → pairs_of n c (output_of n T r) ≡ r
 unfolding smooth duty_of
 read_back n T c F b r p h =
     let many = smoothed-count n F b c r p in
@@ -48,10 +49,10 @@ module _ (c : Call) where
 
   answers : (a : Answer (List Estimate)) → smooth (duty c) ≡ a → told (mapped (output_of c.n c.room) a) ≡ a
   unfolding told smooth duty_of
-  answers (refused k) p = refl
-  answers (answered r) p =
+  answers (Err k) p = refl
+  answers (Ok r) p =
       let within = (smoothable_of (length c.slots) (length c.output) c.n c.room c.count c.right).buffer.sizes.within in
-      ap answered (read_back c.n c.room c.count (used c.n c.n c.transition) c.slots r p within)
+      ap Ok (read_back c.n c.room c.count (used c.n c.n c.transition) c.slots r p within)
 
   pub call_is_smooth : run c ≡ smooth (duty c)
   unfolding told

@@ -1,6 +1,6 @@
 -- The output of smoothing: the pairs in front of +0, as many numbers as it has room for; and the ways out of `smooth`. Assumes nothing.
 use mathlib.Core.Path.{◌≡◌, refl, sym, ap, ap₂, ◌∙◌, subst}
-use mathlib.Core.Bool.{Bool, true, false}
+use mathlib.Core.Bool.{Bool, true}
 use mathlib.Core.List.{List, [], ◌∷◌, ◌++◌, map}
 use Prim.Native.Nat.{ℕ, ◌+◌, ◌*◌, ◌≤◌, suc}
 use native.Mathlib.Nat.{suc-mul, mul-le-mul_right}
@@ -8,10 +8,14 @@ use native.Mathlib.Omega.{arith}
 use lib.ListN.{length, take, drop, replicate, length-append}
 use lib.Seq.{take_at, length-take-le}
 use lib.Ieee.{Float}
+use Rattle.std.specs.Prelude.{Ok, Err, IsErrAnd}
+use Rattle.answer.specs.declared.Refusal.{Refusal}
+use Rattle.answer.specs.declared.Refusal.TheVariants.{InsufficientData}
+use Rattle.small_inverse.proofs.Exits.{exit}
+use Rattle.sizes.specs.declared.Size.{Size}
+use Rattle.sizes.specs.Size.{size_of}
 use Rattle.scalar.specs.Number.{+0}
-use Rattle.answer.specs.declared.Status.{Status}
-use Rattle.answer.specs.declared.Status.TheVariants.{Done, Refused}
-use Rattle.answer.specs.Answer.{Answer, answered, mapped, if_sized}
+use Rattle.answer.specs.Answer.{Answer, mapped, where_sized, if_sized}
 use Rattle.answer.specs.Table.{table, pad_to}
 use Rattle.answer.proofs.Tables.{length-table, table_ext, length-pad_to, pad_to-pad_to}
 use Rattle.algebra.specs.Matrix.{Matrix}
@@ -26,7 +30,7 @@ use Rattle.smoothing.proofs.Backward.{Each, each-table, pass-each, pass-count}
 use Rattle.duty.specs.Buffer.{pair_at, slot_from, slot_at, slots_of, duty_of, pair_numbers, output_of}
 use Rattle.duty.specs.Passed.{Passed, smooth_left, smooth_of}
 use Rattle.duty.specs.Buffer.{smoothable}
-use Rattle.duty.proofs.Sizes.{smoothable_of}
+use Rattle.duty.proofs.Sizes.{smoothable_of, smoothable-given, unsized, output-small}
 use Rattle.duty.proofs.Pairs.{Paired, length-pair, paired_at, pair-back}
 use Rattle.duty.proofs.Passes.{paired-smoothed, told-done, told-refused}
 
@@ -73,7 +77,7 @@ output_is n T N r h f =
     ap (take m) (in_front_of l N ∙ sym (pad_to-pad_to N m +0 l h f)) ∙ take_at (pad_to m +0 l) _ m (length-pad_to m +0 l h)
 
 -- ---- the pairs of smoothed slots: one for each slot, and each of size n
-module _ (n : ℕ) (F : Matrix) (b : List Float) (c : ℕ) (r : List Estimate) (p : smooth_slots n F (slots_of n b c) ≡ answered r) where
+module _ (n : ℕ) (F : Matrix) (b : List Float) (c : ℕ) (r : List Estimate) (p : smooth_slots n F (slots_of n b c) ≡ Ok r) where
   pub smoothed-count : length r ≡ c
   unfolding smooth_slots
   smoothed-count = pass-count (λ s. s.filtered) (slot_gain n F) (smoothed_pair n) (slots_of n b c) r p ∙ length-table c (λ k. slot_at n b k)
@@ -89,6 +93,12 @@ module _ (n : ℕ) (F : Matrix) (b : List Float) (c : ℕ) (r : List Estimate) (
   smoothed-length {T} h =
       omega (arith, length_pairs n r smoothed-pairs, ap (λ (k : ℕ). k * pair_length n) smoothed-count, mul-le-mul_right (pair_length n) h)
 
+-- an output of right sizes is no longer than the buffer of the largest size
+pub shorter : (m o n T c : ℕ) {s : Size} {a : Answer Size} {l : ℕ} → a ≡ where_sized (smoothable m o n T c) (size_of n) → a ≡ Ok s → l ≡ 1280 → o ≤ l
+shorter m o n T c p q e =
+    let t = smoothable_of m o n T c (smoothable-given m o n T c p q).passed in
+    omega (arith, t.output, output-small t.buffer.sizes.bounds.most t.buffer.sizes.few)
+
 -- ---- the ways out of `smooth`
 module _ (n T c : ℕ) (b : List Float) (f : List (List Float)) (o : List Float) where
   abbrev result_at : ℕ → Answer (List Estimate)
@@ -102,22 +112,25 @@ module _ (n T c : ℕ) (b : List Float) (f : List (List Float)) (o : List Float)
   unfolding smooth duty_of
   smooth-way p q = ap₂ (λ (t : Bool) (a : Answer (List Estimate)). smooth_left (λ l. l) o (if_sized t (mapped (output_of n T) a))) (sym p) (sym q)
 
-  pub smooth-unsized : fits ≡ false → (Refused 1, o) ≡ smooth_of n T c b f o
-  smooth-unsized h = smooth-way h refl
+  -- a is what the test gave, and r what is returned
+  pub smooth-unsized : (r : Answer Unit) {a : Answer Size} {k : Refusal} → IsErrAnd r (λ e. e ≡ k) → a ≡ where_sized fits (size_of n) → a ≡ Err k
+      → (r, o) ≡ smooth_of n T c b f o
+  smooth-unsized r e p d = let u = unsized fits (size_of n) p d in (λ i. ((exit e ∙ ap Err u.1) i, o)) ∙ smooth-way u.0 refl
 
-  pub smooth-none : fits ≡ true → c ≡ 0 → (Refused 2, o) ≡ smooth_of n T c b f o
+  pub smooth-none : fits ≡ true → c ≡ 0 → (Err InsufficientData, o) ≡ smooth_of n T c b f o
   unfolding smooth_slots pass
   smooth-none h e = smooth-way h (ap (λ (k : ℕ). smooth_slots n (used n n f) (slots_of n b k)) e)
 
-  -- the pass over a buffer of N +0 was refused, or answered: m is the size as the code has it, s the status, and l what the buffer holds
-  module _ (N : ℕ) {m : ℕ} {s : Status} {l : List Float} (em : m ≡ n) (h : fits ≡ true) (e : Passed (result_at m) (replicate N +0) l s) where
+  -- the pass over a buffer of N +0 was refused, or answered: m is the size as the code has it, s what is told, and l what the buffer holds
+  module _ (N : ℕ) {m : ℕ} {s : Answer Unit} {l : List Float} (em : m ≡ n) (h : fits ≡ true) (e : Passed (result_at m) (replicate N +0) l s) where
     here : Passed (result_at n) (replicate N +0) l s
     here = subst (λ (k : ℕ). Passed (result_at k) (replicate N +0) l s) em e
 
-    pub smooth-stopped : {k : ℕ} → s ≡ Refused k → (Refused k, o) ≡ smooth_of n T c b f o
-    smooth-stopped d = smooth-way h (told-refused (result_at n) here.told d)
+    pub smooth-stopped : (r : Answer Unit) {k : Refusal} → IsErrAnd r (λ e. e ≡ k) → s ≡ Err k → (r, o) ≡ smooth_of n T c b f o
+    smooth-stopped r e d = (λ i. (exit e i, o)) ∙ smooth-way h (told-refused (result_at n) here.told d)
 
-    pub smooth-done : {z : List Float} → T * pair_length n ≤ N → s ≡ Done → length o ≤ length l → z ≡ put_at 0 (take (length o) l) o → (Done, z) ≡ smooth_of n T c b f o
+    pub smooth-done : {z : List Float} {u : Unit} → T * pair_length n ≤ N → s ≡ Ok u → length o ≤ length l → z ≡ put_at 0 (take (length o) l) o
+        → (Ok tt, z) ≡ smooth_of n T c b f o
     smooth-done {z} small d room q =
         let (r, p) = told-done (result_at n) here.told d in
         let t = smoothable_of (length b) (length o) n T c h in
@@ -126,4 +139,4 @@ module _ (n T c : ℕ) (b : List Float) (f : List (List Float)) (o : List Float)
         let pairs : take (length o) l ≡ output_of n T r =
         ap₂ (λ (k : ℕ) (l : List Float). take k l) t.output (here.pairs r p)
         ∙ output_is n T N r (smoothed-length n (used n n f) b c r p t.buffer.sizes.within) small in
-        (λ i. (Done, (copied ∙ pairs) i)) ∙ smooth-way h p
+        (λ i. (Ok tt, (copied ∙ pairs) i)) ∙ smooth-way h p

@@ -1,8 +1,6 @@
 -- A call of `smooth` as a duty: what it answers, and writes for the stored slots, by its contract. Definitions only.
 use Rattle.std.specs.Prelude.{ℕ, ◌*◌, ◌≡◌, true, List, length, Float}
-use Rattle.answer.specs.declared.Status.{Status}
-use Rattle.answer.specs.declared.Status.TheVariants.{Done, Refused}
-use Rattle.answer.specs.Answer.{Answer, refused, answered}
+use Rattle.answer.specs.Answer.{Answer, mapped}
 use Rattle.answer.specs.Table.{table}
 use Rattle.algebra.specs.Array.{used}
 use Rattle.filtering.specs.Filter.{Estimate}
@@ -30,10 +28,9 @@ duty c = duty_of c.n (used c.n c.n c.transition) c.slots c.count
 abbrev pub pairs_of : ℕ → ℕ → List Float → List Estimate
 pairs_of n c o = table c (λ k. pair_at n o (k * pair_length n))
 
--- the status, with the numbers l that stand in the output in the end
-abbrev pub answer_of : ℕ → ℕ → Status → List Float → Answer (List Estimate)
-answer_of n c Done l = answered (pairs_of n c l)
-answer_of n c (Refused k) l = refused k
+-- what is told, with the numbers l that stand in the output in the end
+abbrev pub answer_of : ℕ → ℕ → Answer (Unit {0}) → List Float → Answer (List Estimate)
+answer_of n c t l = mapped (λ u. pairs_of n c l) t
 
 abbrev pub run : Call → Answer (List Estimate)
 run c = let x = smooth_of c.n c.room c.count c.slots c.transition c.output in answer_of c.n c.count x.0 x.1

@@ -3,20 +3,13 @@
 #![tactic(auto)]
 
 ghost use Rattle.std.specs.Prelude.{◌≡◌};
+ghost use Rattle.answer.specs.Answer.{mapped};
 ghost use Rattle.road.specs.Road.{matrix_of, estimate_of};
 ghost use Rattle.smoothing.specs.Smoother.{smoothed_pair, smooth_slot};
-ghost use Rattle.duty.specs.Passed.{smooth_left};
 ghost use Rattle.rts_road.specs.Slot.{slot_of_two};
 
-use answer::Status;
+use answer::Refusal;
 use road::{Pair, Two};
-
-// A slot's smoothed pair beside the answer; beside a refusal, the next slot's.
-#[derive(Clone, Copy)]
-pub struct PairSmoothed {
-    pub answer: Status,
-    pub pair: Pair,
-}
 
 // x + G d, and P + (G D) Gᵀ, with d and D the next slot's smoothed pair less the predicted pair y.
 fn corrected_two(e: Pair, y: Pair, g: Two, next: Pair) -> Pair
@@ -48,35 +41,11 @@ fn corrected_two(e: Pair, y: Pair, g: Two, next: Pair) -> Pair
 }
 
 // The slot of the filtered pair e and the predicted pair y, with the transition f, before a slot whose smoothed pair is next.
-pub fn smooth_two(e: Pair, y: Pair, f: Two, next: Pair) -> PairSmoothed
-    ensures { (result.answer, estimate_of result.pair)
-        ≡ smooth_left (λ s. s) (estimate_of next) (smooth_slot 2 (matrix_of f) (slot_of_two e y) (estimate_of next)) }
+// Refused as singular: inversion rejects the predicted covariance.
+pub fn smooth_two(e: Pair, y: Pair, f: Two, next: Pair) -> Result<Pair, Refusal>
+    ensures { mapped estimate_of result ≡ smooth_slot 2 (matrix_of f) (slot_of_two e y) (estimate_of next) }
 {
-    let q = y.p;
-    let p = e.p;
-    let inverted = small_inverse::inverse_two(q.a, q.b, q.c, q.d);
-    let status = inverted.status;
-    match status {
-        Status::Done => {
-            let w = inverted.cells;
-            let g = road::gain(
-                p,
-                f,
-                Two {
-                    a: w[0],
-                    b: w[1],
-                    c: w[2],
-                    d: w[3],
-                },
-            );
-            PairSmoothed {
-                answer: Status::Done,
-                pair: corrected_two(e, y, g, next),
-            }
-        }
-        Status::Refused(number) => PairSmoothed {
-            answer: Status::Refused(number),
-            pair: next,
-        },
-    }
+    let w = y.p.inverse()?;
+    let g = road::gain(e.p, f, w);
+    Ok(corrected_two(e, y, g, next))
 }

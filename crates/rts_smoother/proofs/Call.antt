@@ -8,7 +8,9 @@ use native.Mathlib.Omega.{arith}
 use lib.Dec.{leb}
 use lib.ListN.{length}
 use lib.Ieee.{Float}
-use Rattle.answer.specs.Answer.{answered, if_sized, refused_if}
+use Rattle.std.specs.Prelude.{Ok}
+use Rattle.answer.specs.declared.Refusal.TheVariants.{BufferFull}
+use Rattle.answer.specs.Answer.{if_sized, refused_if}
 use Rattle.algebra.specs.Matrix.{Matrix}
 use Rattle.algebra.specs.Array.{used_flat}
 use Rattle.algebra.proofs.Matrices.{shape-mat}
@@ -45,7 +47,7 @@ demand3_of_method = demand3_by duty run method_is_smooth
 -- ---- a store
 
 -- what a store answers, where it answers
-inside : {A : Type 0} (t f : Bool) (x y : A) → if_sized t (refused_if f 5 x) ≡ answered y → (t ≡ true) × (x ≡ y)
+inside : {A : Type 0} (t f : Bool) (x y : A) → if_sized t (refused_if f BufferFull x) ≡ Ok y → (t ≡ true) × (x ≡ y)
 inside true false x y e = (refl, cc)
 inside true true x y e = (refl, cc)
 inside false f x y e = (cc, cc)
@@ -61,7 +63,7 @@ slotted s = record {
 pub stored-duty : StoredDuty
 stored-duty = record { one_more = λ m F s b b' c e. more m F s b b' c e }
   where
-    more : (m : RtsSmoother) (F : Matrix) (s : FilteredState) (b b' : List Float) (c : ℕ) → store_forward m b s ≡ answered (c, b')
+    more : (m : RtsSmoother) (F : Matrix) (s : FilteredState) (b b' : List Float) (c : ℕ) → store_forward m b s ≡ Ok (c, b')
         → (duty_of m.n F b' c).slots ≡ (duty_of m.n F b m.count).slots ++ (slot_of s ∷ [])
     more m F s b b' c e =
         let i = inside (storable (length b) m.n m.room m.count s.n) (leb m.room m.count) _ (c, b') e in

@@ -1,6 +1,6 @@
 -- A call of the method `RtsSmoother::smooth` as a duty: what it answers, and writes for the stored slots, by its contract. Definitions only.
-use Rattle.std.specs.Prelude.{ℕ, ◌≡◌, true, List, [], ◌∷◌, ◌++◌, eqb, Float}
-use Rattle.answer.specs.Answer.{Answer, answered}
+use Rattle.std.specs.Prelude.{ℕ, ◌≡◌, true, List, [], ◌∷◌, ◌++◌, eqb, Float, Ok}
+use Rattle.answer.specs.Answer.{Answer}
 use Rattle.algebra.specs.Matrix.{Matrix}
 use Rattle.filtering.specs.Filter.{Estimate}
 use Rattle.smoothing.specs.Smoother.{Duty}
@@ -28,5 +28,5 @@ run c =
 
 -- the duty after a store is the one before it, with the slot as its last
 pub record StoredDuty : Type 0 where
-  pub one_more : (m : RtsSmoother) (F : Matrix) (s : FilteredState) (b b' : List Float) (c : ℕ) → store_forward m b s ≡ answered (c, b')
+  pub one_more : (m : RtsSmoother) (F : Matrix) (s : FilteredState) (b b' : List Float) (c : ℕ) → store_forward m b s ≡ Ok (c, b')
       → (duty_of m.n F b' c).slots ≡ (duty_of m.n F b m.count).slots ++ (slot_of s ∷ [])

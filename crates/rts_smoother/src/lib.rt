@@ -3,18 +3,19 @@
 // records and the methods; the pass itself is crates/rts_pass.
 #![tactic(auto)]
 
-ghost use Rattle.std.specs.Prelude.{◌≡◌, true, ◌+◌, ◌≤◌, length};
-ghost use Rattle.sizes.specs.Size.{sized};
-ghost use Rattle.layout.specs.Layout.{placed, stride};
-ghost use Rattle.duty.specs.Buffer.{slot_numbers};
+ghost use Rattle.std.specs.Prelude.{◌≡◌, ◌+◌, ◌≤◌, leb, length};
+ghost use Rattle.answer.specs.Answer.{where_sized, if_sized, refused_if};
+ghost use Rattle.answer.specs.declared.Refusal.TheVariants.{IndexOutOfRange};
+ghost use Rattle.sizes.specs.Size.{count, size_of};
+ghost use Rattle.layout.specs.Layout.{placed, stride as stride_of};
+ghost use Rattle.duty.specs.Buffer.{slot_numbers, buffered};
 ghost use Rattle.smoothing.specs.Demand3.{Demand3};
 ghost use Rattle.rts_smoother.specs.Call.{duty, run, StoredDuty};
-ghost use Rattle.rts_smoother.specs.Record.{slot_of, storable, state_from, new_of, reset_of, len_of, is_empty_of, store_of, get_state_refusal, get_state, place_of, smooth_with};
+ghost use Rattle.rts_smoother.specs.Record.{slot_of, storable, state_from, room_of, stored, new_of, emptied, reset_of, len_of, is_empty_of, store_in, store_of, get_state_refusal, get_state, place_of, smooth_with};
 
-use answer::Status;
-use duty::{is_buffered, is_counted, stride_of};
-use matrix::TestResult;
-use sizes::size_of;
+use answer::{Refusal, Step};
+use duty::{Room, pair_length, stride};
+use sizes::Size;
 
 // One slot: the filtered state x and covariance p, n by n, and the predicted pair. A matrix stands flat, four
 // numbers a row; what stands outside its sizes is ignored.
@@ -27,13 +28,6 @@ pub struct FilteredState {
     pub p_pred: [f64; 16],
 }
 
-// A slot beside its case.
-#[derive(Clone, Copy)]
-pub struct StateResult {
-    pub status: Status,
-    pub state: FilteredState,
-}
-
 // Room for `room` slots of state size n, of which the first `count` are stored. The slots are in a lent buffer.
 #[derive(Clone, Copy)]
 pub struct RtsSmoother {
@@ -42,40 +36,15 @@ pub struct RtsSmoother {
     pub count: usize,
 }
 
-// A call's answer, and the smoother that it leaves.
-#[derive(Clone, Copy)]
-pub struct Stored {
-    pub answer: Status,
-    pub smoother: RtsSmoother,
-}
-
-// A count, or the refusal.
-#[derive(Clone, Copy)]
-pub enum CountResult {
-    Value(usize),
-    Refused(u8),
-}
-
-// ---- sizes and slots
-
-// The buffer's sizes, and that a slot has the smoother's size.
-fn is_storable(len: usize, n: usize, room: usize, count: usize, size: usize) -> bool
-    ensures { result ≡ storable len n room count size }
-{
-    sizes::both(is_buffered(len, n, room, count), n == size)
-}
-
 // A slot into a buffer, from number k on: its filtered pair, then its predicted pair. Every other number stays.
-fn put_slot(b: &mut [f64], k: usize, s: FilteredState)
-    requires { (sized s.n ≡ true) × (k + stride s.n ≤ length b.old) }
+fn put_slot(b: &mut [f64], k: usize, s: FilteredState, n: Size)
+    requires { (count n ≡ s.n) × (k + stride_of s.n ≤ length b.old) }
     ensures { b.new ≡ placed k (slot_numbers (slot_of s)) b.old }
 {
-    let n = s.n;
-    let size = size_of(n);
     let p = kernel::from_flat(&s.p);
     let q = kernel::from_flat(&s.p_pred);
-    layout::put_pair(b, k, s.x, &p, size);
-    layout::put_pair(b, k + (n + n * n), s.x_pred, &q, size);
+    layout::put_pair(b, k, s.x, &p, n);
+    layout::put_pair(b, k + pair_length(n), s.x_pred, &q, n);
 }
 
 impl FilteredState {
@@ -86,139 +55,137 @@ impl FilteredState {
         p: [[f64; 4]; 4],
         x_pred: [f64; 4],
         p_pred: [[f64; 4]; 4],
-    ) -> StateResult
+    ) -> Result<FilteredState, Refusal>
         ensures { result ≡ state_from n x p x_pred p_pred }
     {
-        if sizes::is_size(n) {
-            let size = size_of(n);
-            StateResult {
-                status: Status::Done,
-                state: FilteredState {
-                    n,
-                    x: rows::leading(x, size),
-                    p: kernel::flat_part(&p, size, size),
-                    x_pred: rows::leading(x_pred, size),
-                    p_pred: kernel::flat_part(&p_pred, size, size),
-                },
-            }
-        } else {
-            StateResult {
-                status: Status::Refused(1),
-                state: FilteredState {
-                    n: 0,
-                    x: [0.0; 4],
-                    p: [0.0; 16],
-                    x_pred: [0.0; 4],
-                    p_pred: [0.0; 16],
-                },
-            }
-        }
+        let size = Size::try_from(n)?;
+        Ok(FilteredState {
+            n,
+            x: rows::leading(x, size),
+            p: kernel::flat_part(&p, size, size),
+            x_pred: rows::leading(x_pred, size),
+            p_pred: kernel::flat_part(&p_pred, size, size),
+        })
     }
 }
 
 impl RtsSmoother {
     // Room for `room` slots of state size n, none stored. Refused with 1: n is no size, or room is not 1 to 64.
-    pub fn new(n: usize, room: usize) -> Stored
+    pub fn new(n: usize, room: usize) -> Result<RtsSmoother, Refusal>
         ensures { result ≡ new_of n room }
     {
-        if is_counted(n, room, 0) {
-            Stored {
-                answer: Status::Done,
-                smoother: RtsSmoother { n, room, count: 0 },
-            }
-        } else {
-            Stored {
-                answer: Status::Refused(1),
-                smoother: RtsSmoother {
-                    n: 0,
-                    room: 0,
-                    count: 0,
-                },
-            }
+        Room { n, room, count: 0 }.counted()?;
+        Ok(RtsSmoother { n, room, count: 0 })
+    }
+
+    fn sizes(self) -> Room
+        ensures { result ≡ room_of self }
+    {
+        let RtsSmoother { n, room, count } = self;
+        Room { n, room, count }
+    }
+
+    // The step to the smoother after it; a refusal leaves this one.
+    fn step(self, next: Result<RtsSmoother, Refusal>) -> Step<(), RtsSmoother>
+        ensures { result ≡ stored self next }
+    {
+        match next {
+            Ok(left) => Step {
+                answer: Ok(()),
+                left,
+            },
+            Err(refusal) => Step {
+                answer: Err(refusal),
+                left: self,
+            },
         }
+    }
+
+    fn emptied(self) -> Result<RtsSmoother, Refusal>
+        ensures { result ≡ emptied self }
+    {
+        self.sizes().counted()?;
+        Ok(RtsSmoother { count: 0, ..self })
     }
 
     // Afterwards no slot is stored; the buffer is not touched. Refused with 1: a size of the record, or its count.
-    pub fn reset(self) -> Stored
+    pub fn reset(self) -> Step<(), RtsSmoother>
         ensures { result ≡ reset_of self }
     {
-        if is_counted(self.n, self.room, self.count) {
-            let mut next = self;
-            next.count = 0;
-            Stored {
-                answer: Status::Done,
-                smoother: next,
-            }
-        } else {
-            Stored {
-                answer: Status::Refused(1),
-                smoother: self,
-            }
-        }
+        self.step(self.emptied())
     }
 
     // How many slots are stored. Refused with 1: a size of the record, or its count.
-    pub fn len(self) -> CountResult
+    pub fn len(self) -> Result<usize, Refusal>
         ensures { result ≡ len_of self }
     {
-        if is_counted(self.n, self.room, self.count) {
-            CountResult::Value(self.count)
-        } else {
-            CountResult::Refused(1)
-        }
+        self.sizes().counted()?;
+        Ok(self.count)
     }
 
     // Whether no slot is stored. Refused with 1: a size of the record, or its count.
-    pub fn is_empty(self) -> TestResult
+    pub fn is_empty(self) -> Result<bool, Refusal>
         ensures { result ≡ is_empty_of self }
     {
-        if is_counted(self.n, self.room, self.count) {
-            TestResult::Value(self.count == 0)
+        Ok(self.len()? == 0)
+    }
+
+    // The state size, where a buffer of len numbers is just room slots long and a slot has that size.
+    fn storable(self, len: usize, size: usize) -> Result<Size, Refusal>
+        ensures { result ≡ where_sized (storable len self.n self.room self.count size) (size_of self.n) }
+    {
+        let n = self.sizes().buffered(len)?;
+        if self.n == size {
+            Ok(n)
         } else {
-            TestResult::Refused(1)
+            Err(Refusal::WrongSize)
+        }
+    }
+
+    fn store(self, slots: &mut [f64], state: FilteredState) -> Result<RtsSmoother, Refusal>
+        ensures { (result, slots.new) ≡ store_in self slots.old state }
+    {
+        let n = self.storable(slots.len(), state.n)?;
+        let count = self.count;
+        if count < self.room {
+            put_slot(slots, count * stride(n), state, n);
+            Ok(RtsSmoother {
+                count: count + 1,
+                ..self
+            })
+        } else {
+            Err(Refusal::BufferFull)
         }
     }
 
     // One slot more, after those stored. Refused with 1: a size or the count of the record, a slot of another
     // size, a buffer that is not just room slots long; with 5: the count is the room. Then nothing changes.
-    pub fn store_forward(self, slots: &mut [f64], state: FilteredState) -> Stored
-        ensures { (result.answer, (result.smoother, slots.new)) ≡ store_of self slots.old state }
+    pub fn store_forward(self, slots: &mut [f64], state: FilteredState) -> Step<(), RtsSmoother>
+        ensures { (result.answer, (result.left, slots.new)) ≡ store_of self slots.old state }
     {
-        let n = self.n;
-        let count = self.count;
-        if is_storable(slots.len(), n, self.room, count, state.n) {
-            if count < self.room {
-                put_slot(slots, count * stride_of(n), state);
-                let mut next = self;
-                next.count = count + 1;
-                Stored {
-                    answer: Status::Done,
-                    smoother: next,
-                }
-            } else {
-                Stored {
-                    answer: Status::Refused(5),
-                    smoother: self,
-                }
-            }
+        self.step(self.store(slots, state))
+    }
+
+    // The state size, where slot k can be handed out.
+    fn slot_size(self, slots: &[f64], k: usize) -> Result<Size, Refusal>
+        ensures { result ≡ if_sized (buffered (length slots.now) self.n self.room self.count)
+            (refused_if (leb self.count k) IndexOutOfRange (size_of self.n)) }
+    {
+        let size = self.sizes().buffered(slots.len())?;
+        if k < self.count {
+            Ok(size)
         } else {
-            Stored {
-                answer: Status::Refused(1),
-                smoother: self,
-            }
+            Err(Refusal::IndexOutOfRange)
         }
     }
 
-    // Why slot k cannot be handed out: 1 for a size, the count or the buffer's length, 6 where k is not below
-    // the count, 0 for neither.
-    pub fn get_state_refusal(self, slots: &[f64], k: usize) -> u8
+    // Why slot k cannot be handed out: refused with 1 for a size, the count or the buffer's length, with 6 where k is not below
+    // the count.
+    pub fn get_state_refusal(self, slots: &[f64], k: usize) -> Result<(), Refusal>
         ensures { result ≡ get_state_refusal self slots.now k }
     {
-        if is_buffered(slots.len(), self.n, self.room, self.count) {
-            if k < self.count { 0 } else { 6 }
-        } else {
-            1
-        }
+        self.slot_size(slots, k)?;
+        Ok(())
     }
 
     // Slot k, as that part of the buffer itself; an empty part where it cannot be handed out.
@@ -226,14 +193,14 @@ impl RtsSmoother {
         ensures value { result.now ≡ get_state self slots.now k }
         ensures place { result.ref_ptr ≡ place_of self slots.now k slots.entry.ref_ptr }
     {
-        let n = self.n;
-        if self.get_state_refusal(slots, k) == 0 {
-            let stride = stride_of(n);
-            let from = k * stride;
-            let end = from + stride;
-            &slots[from..end]
-        } else {
-            &slots[..0]
+        match self.slot_size(slots, k) {
+            Ok(size) => {
+                let slot = stride(size);
+                let from = k * slot;
+                let end = from + slot;
+                &slots[from..end]
+            }
+            Err(_) => &slots[..0],
         }
     }
 
@@ -245,13 +212,13 @@ impl RtsSmoother {
         transition: [[f64; 4]; 4],
         k: usize,
         output: &mut [f64],
-    ) -> Status
+    ) -> Result<(), Refusal>
         ensures { (result, output.new) ≡ smooth_with self slots.now transition k output.old }
     {
         if self.n == k {
-            rts_pass::smooth(slots, self.n, self.room, self.count, transition, output)
+            rts_pass::smooth(slots, self.sizes(), transition, output)
         } else {
-            Status::Refused(1)
+            Err(Refusal::WrongSize)
         }
     }
 }

@@ -1,29 +1,22 @@
 -- One reading as the code takes it: the predict, and the update by what it answers. Assumes nothing.
-use Prim.Native.Nat.{ℕ}
-use native.Mathlib.Omega.{arith}
 use mathlib.Core.Path.{◌≡◌, refl, sym, ap, ◌∙◌}
-use mathlib.Core.Bool.{Bool, true, false}
 use mathlib.Core.List.{[], ◌∷◌}
 use lib.ListN.{replicate}
 use lib.Ieee.{Float}
+use Rattle.std.specs.Prelude.{Ok, Err}
+use Rattle.std.proofs.Math.Option.{Option, some}
 use Rattle.scalar.specs.Number.{+0}
-use mathlib.Core.Option.{Option}
-use Rattle.answer.specs.declared.Status.{Status}
-use Rattle.answer.specs.declared.Status.TheVariants as Status
-use Rattle.answer.specs.declared.Status.TheVariants.{Done}
-use Rattle.answer.specs.Answer.{Answer, refused, answered, mapped}
+use Rattle.answer.specs.Answer.{Answer, mapped}
 use Rattle.answer.specs.Outcome.{Outcome, Left, unchanged, this, final, standing, done}
+use Rattle.answer.proofs.Answers.{differ, same-refusal}
 use Rattle.algebra.specs.Matrix.{Vector, Matrix}
-use Rattle.matrix.specs.declared.ScalarResult.{ScalarResult}
-use Rattle.matrix.specs.declared.ScalarResult.TheVariants.{Value, Refused}
 use Rattle.filtering.specs.Filter.{Motion, Sensor, Estimate}
 use Rattle.filtering.specs.Linear.{predict, update}
 use Rattle.matrix.specs.Result.{as_one}
-use Rattle.road.specs.Road.{estimate_of, updated_of}
-use Rattle.tracking.specs.Track.{moved, corrected, filter, measured}
-use Rattle.tracker.specs.declared.Reading.{Reading}
-use Rattle.tracker.specs.declared.Filtered.{Filtered}
-use Rattle.tracker.specs.Tracked.{taken_of, measured_of, answer_of}
+use Rattle.road.specs.declared.Pair.{Pair}
+use Rattle.road.specs.declared.Innovation.{Innovation}
+use Rattle.road.specs.Road.{estimate_of, corrected_of, corrected_by, updated_of}
+use Rattle.tracking.specs.Track.{moved, corrected, filter}
 
 pub moved_is : (M : Motion) (e r : Estimate) → done tt r ≡ predict M (replicate M.i +0) e → r ≡ moved M e
 unfolding moved
@@ -33,48 +26,23 @@ final-standing : {S : Type 0} (e : S) (l : Left S) → final e l ≡ standing (�
 final-standing e unchanged = refl
 final-standing e (this s) = refl
 
--- an update that told a and left p
-module _ (Y : Sensor Matrix) (z : Reading) (e : Estimate) {a : ScalarResult} {p : Estimate} (taken : z.taken ≡ true) (u : (a, p) ≡ updated_of e (update Y (z.metres ∷ []) e)) where
-  abbrev o : Outcome Estimate Vector
-  o = update Y (z.metres ∷ []) e
+-- what an update found, a, decides
+found : (Y : Sensor Matrix) (e : Estimate) (a : Answer Innovation) (t : Answer Vector) {q : Estimate} → mapped (λ i. i.innovation) a ≡ as_one t → q ≡ corrected_by Y e a
+    → mapped (corrected_of Y e) a ≡ mapped (λ y. q) t
+found Y e (Err k) (Err j) x y = ap Err (same-refusal x)
+found Y e (Err k) (Ok v) x y = absurd (differ x)
+found Y e (Ok i) (Err j) x y = absurd (differ (sym x))
+found Y e (Ok i) (Ok v) x y = ap Ok (sym y)
 
-  kept : final e o.left ≡ p
-  kept = final-standing e o.left ∙ sym (ap (λ (w : ScalarResult × Estimate). w.1) u)
-
-  told : a ≡ as_one o.told
-  told = ap (λ (w : ScalarResult × Estimate). w.0) u
-
-  with_reading : mapped (λ y. p) o.told ≡ corrected Y (measured_of z) e
-  unfolding corrected
-  with_reading = ap (λ (q : Estimate). mapped (λ y. q) o.told) (sym kept) ∙ ap (λ (b : Bool). corrected Y (measured (taken_of b z.metres)) e) (sym taken)
-
-  pub corrected-value : {w : Float} → a ≡ Value w → answered p ≡ corrected Y (measured_of z) e
-  corrected-value {w} v = go o.told (sym v ∙ told) ∙ with_reading
-    where
-      go : (t : Answer Vector) → Value w ≡ as_one t → answered p ≡ mapped (λ y. p) t
-      go (refused k) x = absurd (let c : ◌≡◌ {A = ℕ} 0 1 = cc in omega arith)
-      go (answered y) x = refl
-
-  pub corrected-refused : {k : ℕ} → a ≡ Refused k → refused k ≡ corrected Y (measured_of z) e
-  corrected-refused {k} v = go o.told (sym v ∙ told) ∙ with_reading
-    where
-      go : (t : Answer Vector) → Refused k ≡ as_one t → ◌≡◌ {A = Answer Estimate} (refused k) (mapped (λ y. p) t)
-      go (refused j) x = cc
-      go (answered y) x = absurd (let c : ◌≡◌ {A = ℕ} 0 1 = cc in omega arith)
-
-pub corrected-none : (Y : Sensor Matrix) (z : Reading) (e : Estimate) → z.taken ≡ false → answered e ≡ corrected Y (measured_of z) e
+pub updated : (Y : Sensor Matrix) (z : Float) (e : Estimate) (a : Answer Innovation) → (mapped (λ i. i.innovation) a, corrected_by Y e a) ≡ updated_of e (update Y (z ∷ []) e)
+    → mapped (corrected_of Y e) a ≡ corrected Y (some (z ∷ [])) e
 unfolding corrected
-corrected-none Y z e n = ap (λ (b : Bool). corrected Y (measured (taken_of b z.metres)) e) (sym n)
+updated Y z e a u =
+    let o = update Y (z ∷ []) e in
+    found Y e a o.told (ap (λ (w : Answer Float × Estimate). w.0) u) (final-standing e o.left ∙ sym (ap (λ (w : Answer Float × Estimate). w.1) u))
 
--- ---- a reading's filtering, as the code has it: m is the estimate predicted, and r what the update gives
-module _ (M : Motion) (Y : Sensor Matrix) (z : Option Vector) (e : Estimate) {m : Estimate} (r : Filtered) (em : m ≡ moved M e)
-    (er : answer_of r.answer (estimate_of r.pair) ≡ corrected Y z m) where
-  filtered : answer_of r.answer (estimate_of r.pair) ≡ filter M Y z e
-  unfolding filter
-  filtered = er ∙ ap (corrected Y z) em
-
-  pub filtered-done : r.answer ≡ Done → filter M Y z e ≡ answered (estimate_of r.pair)
-  filtered-done d = sym filtered ∙ ap (λ (s : Status). answer_of s (estimate_of r.pair)) d
-
-  pub filtered-refused : {k : ℕ} → r.answer ≡ Status.Refused k → filter M Y z e ≡ refused k
-  filtered-refused d = sym filtered ∙ ap (λ (s : Status). answer_of s (estimate_of r.pair)) d
+-- a reading's filtering, where m is the estimate predicted, and a what the update gives
+pub filtered : (M : Motion) (Y : Sensor Matrix) (z : Option Vector) (e : Estimate) {m : Estimate} (a : Answer Pair) → m ≡ moved M e → mapped estimate_of a ≡ corrected Y z m
+    → mapped estimate_of a ≡ filter M Y z e
+unfolding filter
+filtered M Y z e a em er = er ∙ ap (corrected Y z) em

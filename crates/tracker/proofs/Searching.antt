@@ -1,28 +1,21 @@
 -- The search for the latest slot rejected: the loop has come back to slot k, and none from there on is. Assumes nothing.
-use Prim.Native.Nat.{ℕ, zero, suc, ◌+◌, ◌*◌, ◌<◌}
+use Prim.Native.Nat.{ℕ, zero, suc, ◌+◌, ◌*◌, ◌-◌, ◌<◌, ◌≤◌}
 use native.Mathlib.Omega.{arith}
 use mathlib.Core.Path.{◌≡◌, refl, sym, ap, ap₂, ◌∙◌}
-use mathlib.Core.Bool.{true, false}
-use mathlib.Core.Option.{Option, none, get_or}
+use mathlib.Core.Bool.{Bool, true, false}
+use mathlib.Core.Option.{none, some}
 use mathlib.Core.List.{List, [], ◌∷◌}
 use lib.ListN.{drop}
 use lib.Ieee.{Float}
-use Rattle.answer.specs.declared.Status.TheVariants.{Done, Refused}
-use Rattle.answer.specs.Answer.{Answer, refused, answered}
+use Rattle.std.specs.Prelude.{Ok, Err, is_err}
+use Rattle.answer.specs.Answer.{Answer}
 use Rattle.answer.specs.Table.{table}
 use Rattle.algebra.specs.Matrix.{Matrix, at, two_by_two}
 use Rattle.algebra.specs.Inverse.{inv}
-use Rattle.algebra.proofs.Inverses.{inv-shape, inv-refused}
-use Rattle.matrix.specs.declared.VectorResult.{VectorResult}
-use Rattle.matrix.specs.Result.{as_matrix}
-use Rattle.small_inverse.specs.Two.{in_rows}
-use Rattle.matrix.proofs.Results.{was_answered, was_refused}
 use Rattle.smoothing.specs.Smoother.{Slot}
-use Rattle.smoothing.specs.Demand3.{Rejected}
 use Rattle.duty.specs.Buffer.{pair_at, slot_from, slot_at, slots_of}
 use Rattle.tracking.specs.Track.{rejects, or_here, latest}
-use Rattle.tracking.proofs.Latest.{latest_from, latest-first}
-use Rattle.tracker.specs.Tracked.{latest_of}
+use Rattle.tracking.proofs.Latest.{rejects-true, latest_from, latest-first}
 
 table_from : {A : Type 0} (c : ℕ) (f : ℕ → A) (k : ℕ) → k < c → drop k (table c f) ≡ f k ∷ drop (suc k) (table c f)
 table_from zero f k h = absurd (omega arith)
@@ -43,43 +36,41 @@ covariance-two b k q e =
     let k3 : q + 3 ≡ k * 12 + 6 + 2 + 1 * 2 + 1 = omega arith in
     λ i. two_by_two (at b (k0 i)) (at b (k1 i)) (at b (k2 i)) (at b (k3 i))
 
--- what inversion answers of it, as the code has it
-module _ (b : List Float) (k q : ℕ) (r : VectorResult) (eq : q ≡ k * 12 + 8)
-    (er : in_rows r ≡ as_matrix (inv 2 (two_by_two (at b q) (at b (q + 1)) (at b (q + 2)) (at b (q + 3))))) where
-  abbrev P : Matrix
-  P = (slot_at 2 b k).predicted.covariance
+-- whether inversion rejects it, as the code tests it
+tested : (a : Answer Matrix) → elim a [ Err k ↦ true | Ok W ↦ false ] ≡ is_err a
+tested (Err k) = refl
+tested (Ok W) = refl
 
-  inverted : in_rows r ≡ as_matrix (inv 2 P)
-  inverted = er ∙ ap (λ (A : Matrix). as_matrix (inv 2 A)) (covariance-two b k q eq)
+pub rejects_two : (b : List Float) (k q : ℕ) {o : Answer Matrix} {t : Bool} → q ≡ k * 12 + 8
+    → o ≡ inv 2 (two_by_two (at b q) (at b (q + 1)) (at b (q + 2)) (at b (q + 3))) → t ≡ is_err o → rejects 2 (slot_at 2 b k) ≡ t
+unfolding rejects
+rejects_two b k q eq eo et = tested (inv 2 (slot_at 2 b k).predicted.covariance) ∙ ap is_err (sym (eo ∙ ap (inv 2) (covariance-two b k q eq))) ∙ sym et
 
-  pub rejected-two : {j : ℕ} → r.status ≡ Refused j → Rejected 2 (slot_at 2 b k)
-  rejected-two {j} d = let e = was_refused (inv 2 P) inverted d in e ∙ ap refused (inv-refused 2 P j e)
-
-  pub accepted_two : r.status ≡ Done → rejects 2 (slot_at 2 b k) ≡ false
-  unfolding rejects
-  accepted_two d = ap (λ (a : Answer Matrix). elim a [ refused k ↦ true | answered W ↦ false ]) (was_answered (inv 2 P) (inv-shape 2 P) inverted d)
+-- the last of c slots does not count
+none_in_last : (b : List Float) (c : ℕ) → latest 2 (drop (c - 1) (slots_of 2 b c)) ≡ none
+unfolding latest
+none_in_last b zero = let e : 0 - 1 ≡ 0 = omega arith in ap (λ (m : ℕ). latest 2 (drop m (slots_of 2 b 0))) e
+none_in_last b (suc c) =
+    let e : suc c - 1 ≡ c = omega arith in
+    ap (λ (m : ℕ). latest 2 (drop m (slots_of 2 b (suc c)))) e
+    ∙ ap (latest 2) (table_from (suc c) (λ i. slot_at 2 b i) c (omega arith) ∙ ap (λ (l : List Slot). slot_at 2 b c ∷ l) (table-end (suc c) (λ i. slot_at 2 b i)))
 
 module _ (b : List Float) (c : ℕ) where
   pub record Searching (k : ℕ) : Type 0 where
-    pub below : k < c
+    pub below : k ≤ c - 1
     pub no_later : latest 2 (drop k (slots_of 2 b c)) ≡ none
 
-  pub searching-start : {k : ℕ} → suc k ≡ c → Searching k
-  unfolding latest
-  searching-start {k} e = record {
-    below = omega arith;
-    no_later =
-        ap (latest 2) (table_from c (λ i. slot_at 2 b i) k (omega arith) ∙ ap (λ (l : List Slot). slot_at 2 b k ∷ l) (ap (λ (m : ℕ). drop m (slots_of 2 b c)) e ∙ table-end c (λ i. slot_at 2 b i)));
-  }
+  pub searching-start : {k : ℕ} → k ≡ c - 1 → Searching k
+  searching-start e = record { below = omega arith; no_later = ap (λ (m : ℕ). latest 2 (drop m (slots_of 2 b c))) e ∙ none_in_last b c }
 
   module _ {k j : ℕ} (t : Searching k) (e : suc j ≡ k) where
     two_from : drop j (slots_of 2 b c) ≡ slot_at 2 b j ∷ slot_at 2 b k ∷ drop (suc k) (slots_of 2 b c)
     two_from =
         table_from c (λ i. slot_at 2 b i) j (omega (arith, t.below))
-        ∙ ap (λ (l : List Slot). slot_at 2 b j ∷ l) (ap (λ (m : ℕ). drop m (slots_of 2 b c)) e ∙ table_from c (λ i. slot_at 2 b i) k t.below)
+        ∙ ap (λ (l : List Slot). slot_at 2 b j ∷ l) (ap (λ (m : ℕ). drop m (slots_of 2 b c)) e ∙ table_from c (λ i. slot_at 2 b i) k (omega (arith, t.below)))
 
     none_after : latest 2 (slot_at 2 b k ∷ drop (suc k) (slots_of 2 b c)) ≡ none
-    none_after = ap (latest 2) (sym (table_from c (λ i. slot_at 2 b i) k t.below)) ∙ t.no_later
+    none_after = ap (latest 2) (sym (table_from c (λ i. slot_at 2 b i) k (omega (arith, t.below)))) ∙ t.no_later
 
     pub searching-more : rejects 2 (slot_at 2 b j) ≡ false → Searching j
     unfolding latest
@@ -88,10 +79,10 @@ module _ (b : List Float) (c : ℕ) where
       no_later = ap (latest 2) two_from ∙ ap₂ or_here h none_after;
     }
 
-    pub searching-found : Rejected 2 (slot_at 2 b j) → j ≡ latest_of (slots_of 2 b c)
+    pub searching-found : rejects 2 (slot_at 2 b j) ≡ true → some j ≡ latest 2 (slots_of 2 b c)
     searching-found h =
-        sym (ap (λ (o : Option ℕ). get_or o 0)
-        (latest_from 2 j (slots_of 2 b c) (ap (latest 2) two_from ∙ latest-first 2 (slot_at 2 b j) (slot_at 2 b k) (drop (suc k) (slots_of 2 b c)) h none_after)))
+        sym (latest_from 2 j (slots_of 2 b c)
+        (ap (latest 2) two_from ∙ latest-first 2 (slot_at 2 b j) (slot_at 2 b k) (drop (suc k) (slots_of 2 b c)) (rejects-true 2 (slot_at 2 b j) h) none_after))
 
-  pub searching-none : {k : ℕ} → Searching k → k ≡ 0 → 0 ≡ latest_of (slots_of 2 b c)
-  searching-none t e = sym (ap (λ (o : Option ℕ). get_or o 0) (ap (λ (m : ℕ). latest 2 (drop m (slots_of 2 b c))) (sym e) ∙ t.no_later))
+  pub searching-none : {k : ℕ} → Searching k → k ≡ 0 → none ≡ latest 2 (slots_of 2 b c)
+  searching-none t e = sym (ap (λ (m : ℕ). latest 2 (drop m (slots_of 2 b c))) (sym e) ∙ t.no_later)

@@ -1,18 +1,19 @@
 -- What the slots lead to: the positions that are gathered, or the place of a refusal. Assumes nothing.
-use Prim.Native.Nat.{ℕ, zero, suc, ◌+◌, ◌*◌, ◌≤◌, ◌<◌}
+use Prim.Native.Nat.{ℕ, zero, suc, ◌+◌, ◌*◌, ◌≤◌}
 use native.Mathlib.Omega.{arith}
 use mathlib.Core.Path.{◌≡◌, refl, sym, ap, ap₂, ◌∙◌}
-use mathlib.Core.Bool.{Bool, true, false, ◌&&◌}
+use mathlib.Core.Bool.{Bool, true, ◌&&◌}
+use mathlib.Core.Option.{Option}
 use mathlib.Core.List.{List, [], ◌∷◌, map, zip_with}
 use lib.ListN.{length, replicate}
 use lib.Ieee.{Float}
 use borrow.Author.Tests.{le-leb}
+use Rattle.std.specs.Prelude.{Ok, Err}
 use Rattle.scalar.specs.Number.{+0}
-use Rattle.answer.specs.declared.Status.{Status}
-use Rattle.answer.specs.declared.Status.TheVariants.{Done, Refused}
-use Rattle.answer.specs.Answer.{refused}
+use Rattle.answer.specs.declared.Refusal.{Refusal}
+use Rattle.answer.specs.Answer.{Answer}
 use Rattle.answer.specs.Table.{table, pad_to}
-use Rattle.answer.proofs.Tables.{length-table, table_ext, map-table}
+use Rattle.answer.proofs.Tables.{table_ext, map-table}
 use Rattle.algebra.specs.Matrix.{at}
 use Rattle.algebra.specs.Array.{cut, used}
 use Rattle.sizes.specs.Size.{sized}
@@ -25,9 +26,8 @@ use Rattle.duty.specs.Passed.{smooth_of}
 use Rattle.rts_pass.specs.Call.{Call, pairs_of, answer_of}
 use Rattle.rts_pass.proofs.Call.{call_is_smooth}
 use Rattle.tracking.specs.Track.{Smoothed, positions, latest, refused_at}
-use Rattle.tracking.proofs.Latest.{smoothed-refused, smoothed-answered, smoothed-rejected}
-use Rattle.tracker.specs.declared.Positions.{Positions}
-use Rattle.tracker.specs.Tracked.{latest_of, gathered_from, rejected_at, told, smoothed_of}
+use Rattle.tracking.proofs.Latest.{smoothed-refused, smoothed-answered}
+use Rattle.tracker.specs.Tracked.{gathered_from, told, smoothed_of}
 
 zip_tables : {A B C : Type 0} (f : A → B → C) (c : ℕ) (g : ℕ → A) (h : ℕ → B) → zip_with f (table c g) (table c h) ≡ table c (λ k. f (g k) (h k))
 unfolding zip_with
@@ -57,7 +57,7 @@ rows_of a = (a.a ∷ a.b ∷ +0 ∷ +0 ∷ []) ∷ (a.c ∷ a.d ∷ +0 ∷ +0 �
 
 -- ---- the call of `smooth` over c of 64 slots in b, with the transition a; it told s, and p is its output
 module _ (b : List Float) (c : ℕ) (a : Two) (long : length b ≡ 768) (few : c ≤ 64)
-    {s : Status} {p : List Float} (e : (s, p) ≡ smooth_of 2 64 c b (rows_of a) (replicate 384 +0)) where
+    {s : Answer Unit} {p : List Float} (e : (s, p) ≡ smooth_of 2 64 c b (rows_of a) (replicate 384 +0)) where
   right : smoothable (length b) 384 2 64 c ≡ true
   unfolding smoothable buffered counted roomy sized
   right = ap₂ (λ (m : ℕ) (t : Bool). ((true && (true && t)) && lib.Dec.eqb m 768) && true) long (le-leb c 64 few)
@@ -70,31 +70,18 @@ module _ (b : List Float) (c : ℕ) (a : Two) (long : length b ≡ 768) (few : c
 
   answers : answer_of 2 c s p ≡ smooth duty
   unfolding call duty duty_of used cut
-  answers = ap (λ (w : Status × List Float). answer_of 2 c w.0 w.1) e ∙ call_is_smooth call
+  answers = ap (λ (w : Answer Unit × List Float). answer_of 2 c w.0 w.1) e ∙ call_is_smooth call
 
-  pub told-done : {x y : List Float} → s ≡ Done → x ≡ gathered_from b 12 c → y ≡ gathered_from p 6 c
-      → record { refused = false; reading = 0; filtered = x; smoothed = y } ≡ smoothed_of (matrix_of a) (slots_of 2 b c)
+  pub told-done : {x y : List Float} {u : Unit} → s ≡ Ok u → x ≡ gathered_from b 12 c → y ≡ gathered_from p 6 c
+      → Ok (record { filtered = x; smoothed = y }) ≡ smoothed_of (matrix_of a) (slots_of 2 b c)
   unfolding duty
   told-done d ex ey =
-      let r = smoothed-answered positions duty (sym answers ∙ ap (λ (t : Status). answer_of 2 c t p) d) in
-      (λ i. record {
-        refused = false;
-        reading = 0;
-        filtered = (ex ∙ ap (pad_to 64 +0) (filtered_is b p c)) i;
-        smoothed = (ey ∙ ap (pad_to 64 +0) (smoothed_is b p c)) i;
-      })
+      let r = smoothed-answered positions duty (sym answers ∙ ap (λ (t : Answer Unit). answer_of 2 c t p) d) in
+      (λ i. Ok (record { filtered = (ex ∙ ap (pad_to 64 +0) (filtered_is b p c)) i; smoothed = (ey ∙ ap (pad_to 64 +0) (smoothed_is b p c)) i }))
       ∙ sym (ap told r)
 
-  module _ {k : ℕ} (d : s ≡ Refused k) where
-    stopped : smooth duty ≡ refused k
-    stopped = sym answers ∙ ap (λ (t : Status). answer_of 2 c t p) d
-
-    pub told-rejected : {x : Positions} {j : ℕ} → 0 < c → j ≡ latest_of (slots_of 2 b c) → x ≡ rejected_at j → x ≡ smoothed_of (matrix_of a) (slots_of 2 b c)
-    unfolding duty
-    told-rejected h ej ex =
-        ex ∙ ap rejected_at ej ∙ sym (ap told (smoothed-rejected positions duty k stopped (omega (arith, h, length-table c (λ i. slot_at 2 b i)))))
-
-    pub told_none : c ≡ 0 → record { refused = false; reading = 0; filtered = replicate 64 +0; smoothed = replicate 64 +0 } ≡ smoothed_of (matrix_of a) (slots_of 2 b c)
-    unfolding duty latest
-    told_none h =
-        sym (ap told (smoothed-refused positions duty stopped ∙ ap (λ (n : ℕ). refused_at (latest 2 (slots_of 2 b n))) h))
+  -- o is the latest slot that is rejected
+  pub told-refused : {k : Refusal} {o : Option ℕ} → s ≡ Err k → o ≡ latest 2 (slots_of 2 b c) → told (refused_at o) ≡ smoothed_of (matrix_of a) (slots_of 2 b c)
+  unfolding duty
+  told-refused d eo =
+      ap (λ (q : Option ℕ). told (refused_at q)) eo ∙ sym (ap told (smoothed-refused positions duty (sym answers ∙ ap (λ (t : Answer Unit). answer_of 2 c t p) d)))

@@ -4,8 +4,7 @@ use mathlib.Core.Bool.{Bool}
 use mathlib.Core.List.{List}
 use Prim.Native.Nat.{ℕ}
 use lib.Ieee.{Float}
-use Rattle.answer.specs.declared.Status.{Status}
-use Rattle.answer.specs.Answer.{if_sized, mapped}
+use Rattle.answer.specs.Answer.{Answer, if_sized, mapped}
 use Rattle.algebra.specs.Array.{used}
 use Rattle.smoothing.specs.Backward.{pass}
 use Rattle.smoothing.specs.Smoother.{smooth, smooth_slots}
@@ -14,7 +13,7 @@ use Rattle.duty.specs.Passed.{smooth_left}
 use Rattle.duty.proofs.smooth_refusals.Goals as goal
 
 -- the call after its test of sizes
-sized : ℕ → ℕ → ℕ → List Float → List (List Float) → List Float → Bool → Status × List Float
+sized : ℕ → ℕ → ℕ → List Float → List (List Float) → List Float → Bool → Answer Unit × List Float
 sized n T c b f o t = smooth_left (λ (l : List Float). l) o (if_sized t (mapped (output_of n T) (smooth (duty_of n (used n n f) b c))))
 
 pub returns : goal.returns

@@ -7,6 +7,3 @@ use Rattle.layout.proofs.read_matrix.Given as goal
 
 abbrev pub invariant-loop-i : goal.invariant-loop-i
 invariant-loop-i l = (l.rows ≤ 4) × Rows (λ i'. vector_at (count l.c) l.b (l.k + i' * l.columns)) l.rows l.i l.out
-
-abbrev pub decreases-loop-i : goal.decreases-loop-i
-decreases-loop-i l = l.rows - l.i

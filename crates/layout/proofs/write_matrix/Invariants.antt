@@ -7,6 +7,3 @@ use Rattle.layout.proofs.write_matrix.Given as goal
 
 abbrev pub invariant-loop-i : goal.invariant-loop-i
 invariant-loop-i l = (l.rows ≤ 4) × Putting l.k l.columns (λ i'. front l.c (row l.m i')) l.initial.b l.rows l.i l.b
-
-abbrev pub decreases-loop-i : goal.decreases-loop-i
-decreases-loop-i l = l.rows - l.i

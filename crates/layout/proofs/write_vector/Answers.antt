@@ -1,61 +1,18 @@
 -- `write_vector` meets its contract: the numbers are set one after another, up to the size.
+use mathlib.Core.Path.{ap}
 use native.Mathlib.Omega.{arith}
-use lib.ListN.{length-set}
-use Rattle.sizes.proofs.Sizes.{bounds, exactly, is_one, is_four}
+use Rattle.sizes.specs.Size.{count}
 use Rattle.layout.proofs.Loops.{written, write_one, write_two, write_three, write_four}
 use Rattle.layout.proofs.write_vector.Goals as goal
 
-pub returns-then-numbers-lt2 : goal.returns-then-numbers-lt2
-returns-then-numbers-lt2 c =
-    let k = c.before in
-    let a = k.args in
-    let one = is_one a.n k.number-numbers.ensures c.if-numbers-lt2.true in
-    written _ a.v a.k one (write_one a.b.now a.v a.k (omega arith))
+pub returns-in-One : goal.returns-in-One
+returns-in-One c = let a = c.args in written a.b.now a.v a.k c.in-One.is (write_one a.b.now a.v a.k (omega (arith, c.requires, ap count c.in-One.is)))
 
-pub returns-then-numbers-lt3 : goal.returns-then-numbers-lt3
-returns-then-numbers-lt3 c =
-    let k = c.before.before in
-    let a = k.args in
-    let two = exactly 2 k.number-numbers.ensures c.if-numbers-lt2.false c.if-numbers-lt3.true in
-    written _ a.v a.k two (write_two a.b.now a.v a.k (omega arith))
+pub returns-in-Two : goal.returns-in-Two
+returns-in-Two c = let a = c.args in written a.b.now a.v a.k c.in-Two.is (write_two a.b.now a.v a.k (omega (arith, c.requires, ap count c.in-Two.is)))
 
-pub returns-then-numbers-lt4 : goal.returns-then-numbers-lt4
-returns-then-numbers-lt4 c =
-    let k = c.before.before.before in
-    let a = k.args in
-    let three = exactly 3 k.number-numbers.ensures c.if-numbers-lt3.false c.if-numbers-lt4.true in
-    written _ a.v a.k three (write_three a.b.now a.v a.k (omega arith))
+pub returns-in-Three : goal.returns-in-Three
+returns-in-Three c = let a = c.args in written a.b.now a.v a.k c.in-Three.is (write_three a.b.now a.v a.k (omega (arith, c.requires, ap count c.in-Three.is)))
 
-pub returns : goal.returns
-returns c =
-    let k = c.before.before.before in
-    let a = k.args in
-    let four = is_four a.n k.number-numbers.ensures c.if-numbers-lt4.false in
-    written _ a.v a.k four (write_four a.b.now a.v a.k (omega arith))
-
-pub offset_bounds-b-k : goal.offset_bounds-b-k
-offset_bounds-b-k c = omega (arith, bounds c.args.n)
-
-pub bounds-b-k : goal.bounds-b-k
-bounds-b-k c = omega (arith, bounds c.args.n)
-
-pub shape_of-b-then-numbers-lt2 : goal.shape_of-b-then-numbers-lt2
-shape_of-b-then-numbers-lt2 c = simp length-set
-
-pub bounds-b-k-2 : goal.bounds-b-k-2
-bounds-b-k-2 c = simp length-set (omega arith)
-
-pub shape_of-b-then-numbers-lt3 : goal.shape_of-b-then-numbers-lt3
-shape_of-b-then-numbers-lt3 c = simp length-set
-
-pub bounds-b-k-3 : goal.bounds-b-k-3
-bounds-b-k-3 c = simp length-set (omega arith)
-
-pub shape_of-b-then-numbers-lt4 : goal.shape_of-b-then-numbers-lt4
-shape_of-b-then-numbers-lt4 c = simp length-set
-
-pub bounds-b-k-4 : goal.bounds-b-k-4
-bounds-b-k-4 c = simp length-set (omega arith)
-
-pub shape_of-b : goal.shape_of-b
-shape_of-b c = simp length-set
+pub returns-in-Four : goal.returns-in-Four
+returns-in-Four c = let a = c.args in written a.b.now a.v a.k c.in-Four.is (write_four a.b.now a.v a.k (omega (arith, c.requires, ap count c.in-Four.is)))

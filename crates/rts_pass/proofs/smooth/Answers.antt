@@ -1,73 +1,53 @@
 -- `smooth` meets its contract: the pass fills the front of a buffer of +0, and as much of it as the output holds is copied.
-use mathlib.Core.Path.{◌≡◌, sym, ◌∙◌}
-use mathlib.Core.Bool.{true}
-use Prim.Native.Nat.{◌≤◌}
+use mathlib.Core.Path.{sym}
 use native.Mathlib.Omega.{arith}
-use lib.ListN.{length}
 use lib.Seq.{length-take-le}
-use Rattle.sizes.specs.Size.{count}
-use Rattle.sizes.proofs.Sizes.{is_count}
-use Rattle.duty.specs.Buffer.{smoothable}
-use Rattle.duty.proofs.Sizes.{Smoothable, smoothable_of, output-small, passable}
-use Rattle.rts_pass.proofs.Outputs.{smooth-unsized, smooth-none, smooth-stopped, smooth-done}
-use Rattle.rts_pass.proofs.smooth.Lts as lts
-use Rattle.rts_pass.proofs.smooth.Tie as tie
-use Rattle.rts_pass.proofs.smooth.Reads as reads
+use Rattle.duty.proofs.Sizes.{smoothable_of, smoothable-given, output-small, passable}
+use Rattle.rts_pass.proofs.Outputs.{smooth-unsized, smooth-none, smooth-stopped, smooth-done, shorter}
 use Rattle.rts_pass.proofs.smooth.Goals as goal
 
-abbrev After-size_of : Type 0
-After-size_of = lts.After-size_of tie.the-claims reads.Pre reads.Post
-
-abbrev After-smooth_slots-status : Type 0
-After-smooth_slots-status = lts.After-smooth_slots tie.the-claims reads.Pre reads.Post
-
-abbrev Then-is_smoothable : Type 0
-Then-is_smoothable = lts.Then1 tie.the-claims reads.Pre reads.Post
-
--- the sizes are right
-fitting : (c : Then-is_smoothable) → let a = c.args in smoothable (length a.slots.now) (length a.output.now) a.n a.room a.count ≡ true
-fitting c = sym c.is_smoothable.ensures ∙ c.if-is_smoothable.true
-
-sizes : (c : Then-is_smoothable) → let a = c.args in Smoothable (length a.slots.now) (length a.output.now) a.n a.room a.count
-sizes c = smoothable_of _ _ _ _ _ (fitting c)
-
-size_is : (c : After-size_of) → count c.size_of.result ≡ c.args.n
-size_is c = is_count (sizes c.before.before).buffer.sizes.size c.size_of.ensures
-
--- the output is no longer than the buffer
-shorter : (c : After-smooth_slots-status) → length c.args.output.now ≤ length c.smooth_slots-status.new.out
-shorter c =
-    let s = sizes c.before.before.before.before.before in
-    omega (arith, s.output, output-small s.buffer.sizes.bounds.most s.buffer.sizes.few, c.smooth_slots-status.auto.out)
-
-pub returns-then-count-eq0 : goal.returns-then-count-eq0
-returns-then-count-eq0 c =
+pub returns-in_err-size : goal.returns-in_err-size
+returns-in_err-size c =
     let a = c.args in
-    smooth-none a.n a.room a.count a.slots.now a.transition a.output.now (fitting c.before.before) c.if-count-eq0.true
+    let s = a.room in
+    smooth-unsized s.n s.room s.count a.slots.now a.transition a.output.now _ c.from_residual.ensures.1 c.smoothable.ensures c.in_err-size.was
 
-pub smooth_slots-status-requires : goal.smooth_slots-status-requires
-smooth_slots-status-requires c = passable (sizes c.before.before.before.before.before) (omega (arith, c.if-count-eq0.false)) (size_is c.before.before.before)
-
-pub returns-in-Done : goal.returns-in-Done
-returns-in-Done c =
+pub returns-then-room-eq0 : goal.returns-then-room-eq0
+returns-then-room-eq0 c =
     let a = c.args in
-    let s = (sizes c.before.before.before.before.before.before.before.before.before.before.before.before.before).buffer.sizes in
-    smooth-done a.n a.room a.count a.slots.now a.transition a.output.now 1280 (size_is c.before.before.before.before.before.before.before.before.before.before.before) (fitting c.before.before.before.before.before.before.before.before.before.before.before.before.before) c.smooth_slots-status.ensures
-    (output-small s.bounds.most s.few) c.in-Done.is (shorter c.before.before.before.before.before.before.before.before) c.put_slice.ensures
+    let s = a.room in
+    let g = smoothable-given _ _ s.n s.room s.count c.smoothable.ensures c.in_ok-size.was in
+    smooth-none s.n s.room s.count a.slots.now a.transition a.output.now g.passed c.if-room-eq0.true
 
-pub returns-in-Refused : goal.returns-in-Refused
-returns-in-Refused c =
-    let a = c.args in
-    smooth-stopped a.n a.room a.count a.slots.now a.transition a.output.now 1280 (size_is c.before.before.before.before.before.before) (fitting c.before.before.before.before.before.before.before.before) c.smooth_slots-status.ensures
-    c.in-Refused.is
+pub smooth_slots-requires : goal.smooth_slots-requires
+smooth_slots-requires c =
+    let s = c.args.room in
+    let g = smoothable-given _ _ s.n s.room s.count c.smoothable.ensures c.in_ok-size.was in
+    passable (smoothable_of _ _ _ _ _ g.passed) (omega (arith, c.if-room-eq0.false)) g.size
 
-pub returns-else-is_smoothable : goal.returns-else-is_smoothable
-returns-else-is_smoothable c =
+pub returns-in_err-smooth_slots : goal.returns-in_err-smooth_slots
+returns-in_err-smooth_slots c =
     let a = c.args in
-    smooth-unsized a.n a.room a.count a.slots.now a.transition a.output.now (sym c.is_smoothable.ensures ∙ c.if-is_smoothable.false)
+    let s = a.room in
+    let g = smoothable-given _ _ s.n s.room s.count c.smoothable.ensures c.in_ok-size.was in
+    smooth-stopped s.n s.room s.count a.slots.now a.transition a.output.now 1280 g.size g.passed c.smooth_slots.ensures _
+    c.from_residual-in_err-smooth_slots.ensures.1 c.in_err-smooth_slots.was
 
 pub slice_bounds-pairs-end : goal.slice_bounds-pairs-end
-slice_bounds-pairs-end c = shorter c.before.before.before.before
+slice_bounds-pairs-end c =
+    let s = c.args.room in
+    shorter _ _ s.n s.room s.count c.smoothable.ensures c.in_ok-size.was c.smooth_slots.auto.out
 
 pub slice_bounds-put_slice-end : goal.slice_bounds-put_slice-end
-slice_bounds-put_slice-end c = sym (length-take-le _ _ (shorter c.before.before.before.before.before))
+slice_bounds-put_slice-end c =
+    let s = c.args.room in
+    sym (length-take-le _ _ (shorter _ _ s.n s.room s.count c.smoothable.ensures c.in_ok-size.was c.smooth_slots.auto.out))
+
+pub returns : goal.returns
+returns c =
+    let a = c.args in
+    let s = a.room in
+    let g = smoothable-given _ _ s.n s.room s.count c.smoothable.ensures c.in_ok-size.was in
+    let t = (smoothable_of _ _ _ _ _ g.passed).buffer.sizes in
+    smooth-done s.n s.room s.count a.slots.now a.transition a.output.now 1280 g.size g.passed c.smooth_slots.ensures (output-small t.bounds.most t.few) c.in_ok-smooth_slots.was
+    (shorter _ _ s.n s.room s.count c.smoothable.ensures c.in_ok-size.was c.smooth_slots.auto.out) c.put_slice.ensures

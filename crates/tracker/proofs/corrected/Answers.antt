@@ -1,21 +1,33 @@
 -- `corrected` meets its contract: by whether there is a reading, and what the update answers.
-use Rattle.road.specs.Road.{estimate_of}
-use Rattle.road.proofs.Roads.{corrected_by_lem}
-use Rattle.tracker.specs.Tracked.{sensor_in}
-use Rattle.tracker.proofs.Readings.{corrected-value, corrected-refused, corrected-none}
+use mathlib.Core.Path.{sym, ap, ◌∙◌}
+use lib.Ieee.{Float}
+use Rattle.std.specs.Prelude.{Option, Ok}
+use Rattle.answer.specs.Answer.{mapped}
+use Rattle.road.specs.Road.{sensor_of, estimate_of, corrected_of}
+use Rattle.small_inverse.proofs.Exits.{exit}
+use Rattle.tracking.specs.Track.{corrected}
+use Rattle.tracker.specs.Tracked.{measured_of}
+use Rattle.tracker.proofs.Readings.{updated}
 use Rattle.tracker.proofs.corrected.Goals as goal
 
-pub returns-in-Value : goal.returns-in-Value
-returns-in-Value c =
-    let told = c.in-Value.is in
-    let a = c.args in
-    let s = corrected_by_lem a.f.h0 a.f.h1 c.innovation-found.result.inverse (estimate_of a.e) told c.corrected.ensures c.innovation-found.ensures in
-    corrected-value (sensor_in a.f) a.reading (estimate_of a.e) c.if-reading.true s told
+pub returns-in_err-found-in-Some : goal.returns-in_err-found-in-Some
+returns-in_err-found-in-Some c =
+    let Y = sensor_of c.args.sensor in
+    let e = estimate_of c.args.e in
+    ap (mapped estimate_of) (exit c.from_residual.ensures.1)
+    ∙ sym (ap (mapped (corrected_of Y e)) c.in_err-found-in-Some.was)
+    ∙ updated Y c.in-Some.z e _ c.innovation.ensures
+    ∙ ap (λ (z : Option Float). corrected Y (measured_of z) e) (sym c.in-Some.is)
 
-pub returns-in-Refused : goal.returns-in-Refused
-returns-in-Refused c =
-    let a = c.args in
-    corrected-refused (sensor_in a.f) a.reading (estimate_of a.e) c.if-reading.true c.innovation-found.ensures c.in-Refused.is
+pub returns-in_ok-found-in-Some : goal.returns-in_ok-found-in-Some
+returns-in_ok-found-in-Some c =
+    let Y = sensor_of c.args.sensor in
+    let e = estimate_of c.args.e in
+    ap Ok c.corrected.ensures
+    ∙ sym (ap (mapped (corrected_of Y e)) c.in_ok-found-in-Some.was)
+    ∙ updated Y c.in-Some.z e _ c.innovation.ensures
+    ∙ ap (λ (z : Option Float). corrected Y (measured_of z) e) (sym c.in-Some.is)
 
-pub returns-else-reading : goal.returns-else-reading
-returns-else-reading c = let a = c.args in corrected-none (sensor_in a.f) a.reading (estimate_of a.e) c.if-reading.false
+pub returns-in-None : goal.returns-in-None
+unfolding corrected
+returns-in-None c = ap (λ (z : Option Float). corrected (sensor_of c.args.sensor) (measured_of z) (estimate_of c.args.e)) (sym c.in-None.is)

@@ -1,8 +1,7 @@
 -- `moved` meets its contract: the predict.
-use Rattle.road.specs.Road.{estimate_of}
-use Rattle.tracker.specs.Tracked.{motion_in}
+use Rattle.road.specs.Road.{motion_of, estimate_of}
 use Rattle.tracker.proofs.Readings.{moved_is}
 use Rattle.tracker.proofs.moved.Goals as goal
 
 pub returns : goal.returns
-returns c = let a = c.args in moved_is (motion_in a.f) (estimate_of a.e) _ c.predict.ensures
+returns c = let a = c.args in moved_is (motion_of a.motion) (estimate_of a.e) _ c.predict.ensures

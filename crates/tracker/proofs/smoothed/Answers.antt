@@ -1,30 +1,21 @@
 -- `smoothed` meets its contract: by what the call of `smooth` tells.
-use mathlib.Core.Path.{◌≡◌}
+use mathlib.Core.Path.{sym, ap, ◌∙◌}
 use native.Mathlib.Omega.{arith}
-use lib.ListN.{length}
-use Rattle.tracker.proofs.Told.{told-done, told-rejected, told_none}
-use Rattle.tracker.proofs.smoothed.Lts as lts
-use Rattle.tracker.proofs.smoothed.Tie as tie
-use Rattle.tracker.proofs.smoothed.Reads as reads
+use Rattle.tracker.specs.Tracked.{option_of}
+use Rattle.tracker.proofs.Told.{told-done, told-refused}
 use Rattle.tracker.proofs.smoothed.Goals as goal
 
-abbrev After-smooth-status : Type 0
-After-smooth-status = lts.After-smooth tie.the-claims reads.Pre reads.Post
-
-long : (c : After-smooth-status) → length c.args.slots ≡ 768
-long c = omega arith
-
-pub returns-in-Done : goal.returns-in-Done
-returns-in-Done c =
+pub returns-in-Ok : goal.returns-in-Ok
+returns-in-Ok c =
     let a = c.args in
-    told-done a.slots a.stored a.a (long c.before.before.before.before.before.before) (omega arith) c.smooth-status.ensures c.in-Done.is c.gathered.ensures c.gathered-in-Done.ensures
+    told-done a.slots a.stored a.a (omega arith) (omega arith) c.smooth.ensures c.in-Ok.is c.gathered.ensures c.gathered-in-Ok.ensures
 
-pub returns-then-stored-gt0 : goal.returns-then-stored-gt0
-returns-then-stored-gt0 c =
+pub returns-in-Some : goal.returns-in-Some
+returns-in-Some c =
     let a = c.args in
-    told-rejected a.slots a.stored a.a (long c.before.before.before.before.before.before) (omega arith) c.smooth-status.ensures c.in-Refused.is (omega (arith, c.if-stored-gt0.true)) c.latest_rejected.ensures c.rejected_at.ensures
+    told-refused a.slots a.stored a.a (omega arith) (omega arith) c.smooth.ensures c.in-Err.is (sym (ap option_of c.in-Some.is) ∙ c.latest_rejected.ensures)
 
-pub returns-else-stored-gt0 : goal.returns-else-stored-gt0
-returns-else-stored-gt0 c =
+pub returns-in-None : goal.returns-in-None
+returns-in-None c =
     let a = c.args in
-    told_none a.slots a.stored a.a (long c.before.before.before) (omega arith) c.smooth-status.ensures c.in-Refused.is (omega (arith, c.if-stored-gt0.false))
+    told-refused a.slots a.stored a.a (omega arith) (omega arith) c.smooth.ensures c.in-Err.is (sym (ap option_of c.in-None.is) ∙ c.latest_rejected.ensures)

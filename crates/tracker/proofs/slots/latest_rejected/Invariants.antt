@@ -4,6 +4,3 @@ use Rattle.tracker.proofs.slots.latest_rejected.Given as goal
 
 abbrev pub invariant-loop-k : goal.invariant-loop-k
 invariant-loop-k l = Searching l.slots l.stored l.k
-
-abbrev pub decreases-loop-k : goal.decreases-loop-k
-decreases-loop-k l = l.k
