@@ -1,5 +1,5 @@
 -- A filter in a slice: what its tests say, and that a step on the rows that were read is the step on the slice. Assumes nothing.
-use mathlib.Core.Path.{◌≡◌, sym, ap, ap₂, ◌∙◌}
+use mathlib.Core.Path.{◌≡◌, refl, sym, ap, ap₂, ◌∙◌}
 use mathlib.Core.List.{List, [], ◌∷◌}
 use mathlib.Core.Bool.{Bool, true, false, ◌&&◌, cond}
 use Prim.Native.Nat.{ℕ, suc, ◌+◌, ◌-◌, ◌*◌, ◌≤◌, ◌<◌}
@@ -10,14 +10,16 @@ use lib.ListN.{length, get_or, take, drop, length-take, length-drop}
 use lib.Ieee.{Float}
 use borrow.Author.Tests.{eqb-true}
 use Rattle.answer.proofs.Choice.{cond-true, and_left, and_right}
-use Rattle.sizes.proofs.Sizes.{bounds_of}
+use Rattle.sizes.specs.Size.{count, size_of}
+use Rattle.sizes.proofs.Sizes.{bounds_of, is_count}
 use Rattle.layout.specs.Layout.{joined, placed, put_at, total, offset, filter_parts}
 use Rattle.layout.proofs.Parts.{Fits, none, more, next-part, all-parts}
 use Rattle.layout.proofs.Places.{placed-whole}
 use Rattle.layout.proofs.Calls.{slice-put}
 use Rattle.steps.specs.Step.{well_sized}
 use Rattle.steps.proofs.Sizes as Sizes
-use Rattle.c_copies.specs.Filter.{estimate_place, is_filter, is_step, is_parts}
+use Rattle.c_copies.specs.declared.Places.{Places}
+use Rattle.c_copies.specs.Filter.{estimate_place, places_of, is_filter, is_step, is_step_with, is_parts}
 
 -- ---- the products of the sizes are small
 pub record Few (n m i : ℕ) : Type 0 where
@@ -35,12 +37,11 @@ few_of n m i e =
     let M = (bounds_of m s.measurements).most in
     record { states = N; measurements = M; transition = mul-le-mul N N; input = mul-le-mul N (bounds_of i s.inputs).most; measuring = mul-le-mul M N; noise = mul-le-mul M M }
 
--- ---- where the estimate begins, as the code has it: k
-pub place_is : (n m i : ℕ) {k : ℕ} → well_sized n m i ≡ true → k ≡ cond (well_sized n m i) (estimate_place n m i) 0 → k ≡ estimate_place n m i
-place_is n m i e q = q ∙ cond-true (estimate_place n m i) 0 e
-
-pub place-small : (n m i : ℕ) → well_sized n m i ≡ true → estimate_place n m i ≤ 80
-place-small n m i e = omega (arith, few_of n m i e)
+-- ---- the places, as the code has them
+pub places_are : (n m i : ℕ) {at : Places} → well_sized n m i ≡ true → at ≡ places_of (count (size_of n)) (count (size_of m)) (count (size_of i)) → at ≡ places_of n m i
+places_are n m i e d =
+    let s = Sizes.well_sized_lem n m i e in
+    d ∙ λ t. places_of (is_count {s = size_of n} s.states refl t) (is_count {s = size_of m} s.measurements refl t) (is_count {s = size_of i} s.inputs refl t)
 
 -- ---- a slice of k numbers that passed the test of a filter
 pub record Whole (n m i k : ℕ) : Type 0 where
@@ -62,13 +63,68 @@ unfolding is_step
 step_of n m i k asked j e = record { whole = whole_of n m i k (and_left _ _ e); same = eqb-true j asked (and_right (is_filter n m i k) _ e) }
 
 -- ---- the tests, as the code makes them
-pub filter-tested : (n m i k : ℕ) {w : ℕ} {t u : Bool} → u ≡ well_sized n m i → u ≡ true → w ≡ total (filter_parts n m i) → t ≡ eqb k w → t ≡ is_filter n m i k
+pub filter-tested : (n m i k : ℕ) {at : Places} {t u : Bool} → at ≡ places_of (count (size_of n)) (count (size_of m)) (count (size_of i)) → u ≡ well_sized n m i
+    → t ≡ u && eqb k at.len → t ≡ is_filter n m i k
 unfolding is_filter
-filter-tested n m i k p q e f = f ∙ ap (eqb k) e ∙ sym (ap (λ (b : Bool). b && eqb k (total (filter_parts n m i))) (sym p ∙ q))
+filter-tested n m i k {at} {t} {u} d p q = q ∙ ap (λ (b : Bool). b && eqb k at.len) p ∙ go (well_sized n m i) refl
+  where
+    go : (b : Bool) → well_sized n m i ≡ b → b && eqb k at.len ≡ b && eqb k (total (filter_parts n m i))
+    go true e = λ j. eqb k (places_are n m i e d j).len
+    go false e = refl
 
-pub filter-unsized : (n m i k : ℕ) {u : Bool} → u ≡ well_sized n m i → u ≡ false → false ≡ is_filter n m i k
-unfolding is_filter
-filter-unsized n m i k p q = sym (ap (λ (b : Bool). b && eqb k (total (filter_parts n m i))) (sym p ∙ q))
+-- a filter and one slice beside it, and then a second slice, of l numbers
+module _ (n m i k asked j more l : ℕ) where
+  pub with-tested : {t u : Bool} → t ≡ is_step n m i k asked j → u ≡ t && eqb l more → u ≡ is_step_with n m i k asked j more l
+  unfolding is_step_with
+  with-tested e d = d ∙ ap (λ (b : Bool). b && eqb l more) e
+
+  pub with-step : is_step_with n m i k asked j more l ≡ true → Step n m i k asked j
+  unfolding is_step_with
+  with-step q = step_of n m i k asked j (and_left _ _ q)
+
+  pub with-room : is_step_with n m i k asked j more l ≡ true → l ≡ more
+  unfolding is_step_with
+  with-room q = eqb-true l more (and_right (is_step n m i k asked j) _ q)
+
+-- where n rows of n numbers are asked for, as the code counts them
+module _ (n m i k : ℕ) {at : Places} (d : at ≡ places_of (count (size_of n)) (count (size_of m)) (count (size_of i))) where
+  abbrev whole : Bool
+  whole = eqb k (total (filter_parts n m i))
+
+  pub square-step : (l : ℕ) → is_step n m i k at.square l ≡ is_step n m i k (n * n) l
+  unfolding is_step is_filter
+  square-step l = go (well_sized n m i) refl
+    where
+      go : (b : Bool) → well_sized n m i ≡ b → (b && whole) && eqb l at.square ≡ (b && whole) && eqb l (n * n)
+      go true e = λ t. whole && eqb l (places_are n m i e d t).square
+      go false e = refl
+
+  pub square-with : (asked j l : ℕ) → is_step_with n m i k asked j at.square l ≡ is_step_with n m i k asked j (n * n) l
+  unfolding is_step_with is_step is_filter
+  square-with asked j l = go (well_sized n m i) refl
+    where
+      go : (b : Bool) → well_sized n m i ≡ b → ((b && whole) && eqb j asked) && eqb l at.square ≡ ((b && whole) && eqb j asked) && eqb l (n * n)
+      go true e = λ t. (whole && eqb j asked) && eqb l (places_are n m i e d t).square
+      go false e = refl
+
+  pub parts-tested : (a b h q r x p : ℕ) {t : Bool}
+      → t ≡ is_filter n m i k && ((eqb a at.b && (eqb b (at.h - at.b) && eqb h (at.q - at.h))) && ((eqb q at.square && eqb r (at.x - at.r)) && (eqb x n && eqb p at.square)))
+      → t ≡ is_parts n m i k a b h q r x p
+  unfolding is_parts is_filter
+  parts-tested a b h q r x p s = s ∙ go (well_sized n m i) refl
+    where
+      go : (w : Bool) → well_sized n m i ≡ w
+          → (w && whole) && ((eqb a at.b && (eqb b (at.h - at.b) && eqb h (at.q - at.h))) && ((eqb q at.square && eqb r (at.x - at.r)) && (eqb x n && eqb p at.square)))
+          ≡ (w && whole) && ((eqb a (n * n) && (eqb b (n * i) && eqb h (m * n))) && ((eqb q (n * n) && eqb r (m * m)) && (eqb x n && eqb p (n * n))))
+      go false e = refl
+      go true e =
+          let P = places_are n m i e d in
+          let ea : at.b ≡ n * n = omega (arith, ap (λ (z : Places). z.b) P) in
+          let eb : at.h - at.b ≡ n * i = omega (arith, ap (λ (z : Places). z.b) P, ap (λ (z : Places). z.h) P) in
+          let eh : at.q - at.h ≡ m * n = omega (arith, ap (λ (z : Places). z.h) P, ap (λ (z : Places). z.q) P) in
+          let er : at.x - at.r ≡ m * m = omega (arith, ap (λ (z : Places). z.r) P, ap (λ (z : Places). z.x) P) in
+          let es : at.square ≡ n * n = ap (λ (z : Places). z.square) P in
+          λ t. whole && ((eqb a (ea t) && (eqb b (eb t) && eqb h (eh t))) && ((eqb q (es t) && eqb r (er t)) && (eqb x n && eqb p (es t))))
 
 -- a test t before a further one
 pub and_tested : (a b : Bool) {t u : Bool} → t ≡ a → t ≡ true → u ≡ b → u ≡ a && b
@@ -127,10 +183,13 @@ module _ {n m i k : ℕ} {a b h q r x p : List Float} (g : Given n m i k a b h q
   pub put_all : {f₁ : List Float} → length f ≡ k → f₁ ≡ placed 0 (joined parts) f → f₁ ≡ joined parts
   put_all l e = all-parts (parts-given g) f (l ∙ g.whole.long) e
 
--- the n numbers of f from number k on are copied into all of o
-pub copied : {n k j : ℕ} (f o : List Float) {o₁ : List Float} → j ≡ k → length o ≡ n → k + n ≤ length f → o₁ ≡ put_at 0 (take (j + n - j) (drop j f)) o → o₁ ≡ take n (drop k f)
-copied {n} {k} {j} f o e l h d =
-    let w : j + n - j ≡ n = omega arith in
-    let same = ap₂ (λ (w j : ℕ). take w (drop j f)) w e in
+-- the n numbers of f from number k on are copied into all of o, from j to e as the code has it
+pub copied_to : {n k j e : ℕ} (f o : List Float) {o₁ : List Float} → j ≡ k → e ≡ k + n → length o ≡ n → k + n ≤ length f → o₁ ≡ put_at 0 (take (e - j) (drop j f)) o → o₁ ≡ take n (drop k f)
+copied_to {n} {k} {j} {e} f o d q l h p =
+    let w : e - j ≡ n = omega arith in
+    let same = ap₂ (λ (w j : ℕ). take w (drop j f)) w d in
     let long : length (take n (drop k f)) ≡ n = simp (length-take, length-drop) (omega arith) in
-    slice-put 0 o (take n (drop k f)) (omega (arith, long, l)) (d ∙ ap (λ (t : List Float). put_at 0 t o) same) ∙ placed-whole (take n (drop k f)) o (long ∙ sym l)
+    slice-put 0 o (take n (drop k f)) (omega (arith, long, l)) (p ∙ ap (λ (t : List Float). put_at 0 t o) same) ∙ placed-whole (take n (drop k f)) o (long ∙ sym l)
+
+pub copied : {n k j : ℕ} (f o : List Float) {o₁ : List Float} → j ≡ k → length o ≡ n → k + n ≤ length f → o₁ ≡ put_at 0 (take (j + n - j) (drop j f)) o → o₁ ≡ take n (drop k f)
+copied f o d l h p = copied_to f o d (omega arith) l h p

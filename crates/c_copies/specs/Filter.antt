@@ -1,6 +1,6 @@
 -- A linear filter in one slice: its parts one after another, by rows; and what each call tells and leaves. Definitions only.
-use Rattle.std.specs.Prelude.{ℕ, ◌+◌, ◌*◌, List, [], ◌∷◌, ◌++◌, Bool, ◌&&◌, eqb, length, take, drop, Float}
-use Rattle.answer.specs.Answer.{Answer, refused, answered, where_sized}
+use Rattle.std.specs.Prelude.{ℕ, ◌+◌, ◌*◌, List, [], ◌∷◌, ◌++◌, Bool, ◌&&◌, eqb, length, take, drop, Float, Ok, Err}
+use Rattle.answer.specs.Answer.{Answer, where_sized}
 use Rattle.answer.specs.Outcome.{Outcome, if_fitting, standing, handed}
 use Rattle.answer.specs.Told.{number_of}
 use Rattle.algebra.specs.Matrix.{Vector, Matrix}
@@ -9,12 +9,19 @@ use Rattle.filtering.specs.Linear.{predict, update}
 use Rattle.layout.specs.Layout.{vector_at, joined, placed, total, offset, part_at, filter_parts}
 use Rattle.steps.specs.Step.{well_sized}
 use Rattle.road.specs.Road.{Filter, tracker_of}
+use Rattle.c_copies.specs.declared.Places.{Places}
 
 -- ---- sizes
 
 -- where the estimate begins
 abbrev pub estimate_place : ℕ → ℕ → ℕ → ℕ
 estimate_place n m i = offset (filter_parts n m i) 5
+
+-- where each part begins but the first, how many numbers n rows of n take, and how many all parts
+abbrev pub places_of : ℕ → ℕ → ℕ → Places
+places_of n m i =
+    let L = filter_parts n m i in
+    record { b = offset L 1; h = offset L 2; q = offset L 3; r = offset L 4; x = offset L 5; p = offset L 6; square = n * n; len = total L }
 
 -- a slice of k numbers is just a filter
 unfoldable pub is_filter : ℕ → ℕ → ℕ → ℕ → Bool
@@ -62,8 +69,8 @@ predict_in n m i f u = predicted_in n m i f (if_fitting (is_step n m i (length f
 
 -- what is told stands in a place that held y; a refusal leaves the place as it was
 abbrev pub told_in : {A : Type 0} → A → Answer A → A
-told_in y (refused k) = y
-told_in y (answered a) = a
+told_in y (Err k) = y
+told_in y (Ok a) = a
 
 -- the outcome of an update of f, with the innovation in a slice that held y
 abbrev pub outcome_in : ℕ → ℕ → ℕ → List Float → List Float → Outcome Estimate Vector → ℕ × (List Float × List Float)

@@ -1,5 +1,6 @@
 // `fuse_sensors` of src/estimator/information_filter.rs on slices that the caller lends: one sensor, or any number of them in one
-// slice, added to a filter that is laid out as in c_information. Refused with 1: a size, or a slice of another length.
+// slice, added to a filter that is laid out as in c_information. Refused with 1, as the C interface has it: a size, or a slice of
+// another length.
 #![tactic(auto)]
 
 ghost use Rattle.std.specs.Prelude.{◌≡◌, [], ◌∷◌, ◌+◌, ◌*◌, ◌≤◌, length};
@@ -9,8 +10,8 @@ ghost use Rattle.information_steps.specs.Step.{information_rows, arrays_of};
 ghost use Rattle.c_copies.specs.Filter.{is_step};
 ghost use Rattle.c_fusion.specs.Fusion.{is_sensor, reading_length, reading_at, fuse_in, fuse_all_in};
 
-use c_copies::{is_filter, is_step};
-use sizes::{Size, both, number, size_of};
+use c_copies::{is_filter, is_step, place_parts};
+use sizes::{Size, both, size_of};
 
 // ---- one sensor
 
@@ -27,16 +28,16 @@ pub fn information_fuse_sensor(
     ensures { (result, filter.new) ≡ fuse_in n m i filter.old h.now r_inv.now z.now }
 {
     if is_sensor(n, m, i, filter.len(), h.len(), r_inv.len(), z.len()) {
-        let from = filter.len() - (n + n * n);
+        let at = place_parts(n, m, i);
         let sn = size_of(n);
         let sm = size_of(m);
         let hm = layout::matrix_at(h, 0, sm, sn);
         let w = layout::matrix_at(r_inv, 0, sm, sm);
         let v = layout::vector_at(z, 0, sm);
-        let mut xi = layout::vector_at(filter, from, sn);
-        let mut omega = layout::matrix_at(filter, from + n, sn, sn);
+        let mut xi = layout::vector_at(filter, at.x, sn);
+        let mut omega = layout::matrix_at(filter, at.p, sn, sn);
         information_steps::inform(&hm, &w, &v, sn, sm, &mut omega, &mut xi);
-        layout::put_pair(filter, from, xi, &omega, sn);
+        layout::put_pair(filter, at.x, xi, &omega, sn);
         0
     } else {
         1
@@ -47,36 +48,35 @@ pub fn information_fuse_sensor(
 fn is_sensor(n: usize, m: usize, i: usize, len: usize, h: usize, w: usize, z: usize) -> bool
     ensures { result ≡ is_sensor n m i len h w z }
 {
-    if is_step(n, m, i, len, m, z) {
-        both(h == m * n, w == m * m)
-    } else {
-        false
-    }
+    let at = place_parts(n, m, i);
+    both(
+        is_step(n, m, i, len, m, z),
+        both(h == at.q - at.h, w == at.x - at.r),
+    )
 }
 
 // ---- any number of sensors, one after another in a slice: h (m by n), its inverted noise (m by m), and what it measured (m)
 
 // How many numbers a sensor takes.
-fn reading_length(n: usize, m: usize) -> usize
-    requires { (n ≤ 4) × (m ≤ 4) }
-    ensures { (result ≡ reading_length n m) × (result ≤ 36) }
+fn reading_length(n: Size, m: Size) -> usize
+    ensures { result ≡ reading_length (count n) (count m) }
 {
-    m * n + m * m + m
+    let rows = usize::from(m);
+    rows * usize::from(n) + rows * rows + rows
 }
 
 // A slice of k numbers is just count sensors, beside a filter of len numbers. By division, since the product may not fit.
 fn are_sensors(n: usize, m: usize, i: usize, len: usize, count: usize, k: usize) -> bool
     ensures { result ≡ is_step n m i len (count * reading_length n m) k }
 {
-    if is_filter(n, m, i, len) {
-        let each = reading_length(n, m);
-        both(k / each == count, k % each == 0)
-    } else {
-        false
-    }
+    let each = reading_length(size_of(n), size_of(m));
+    both(
+        is_filter(n, m, i, len),
+        both(k / each == count, k % each == 0),
+    )
 }
 
-// Sensor j is added.
+// Sensor j is added. Its three parts stand at places that j gives: chunks of the slice would have the same places within.
 fn inform_by(
     sensors: &[f64],
     j: usize,
@@ -90,9 +90,9 @@ fn inform_by(
         ≡ arrays_of (fuse (count n) (count m) (reading_at (count n) (count m) sensors.now j ∷ [])
         (information_rows n omega.old xi.old)) }
 {
-    let rows = number(m);
-    let columns = number(n);
-    let at = j * reading_length(columns, rows);
+    let rows = usize::from(m);
+    let columns = usize::from(n);
+    let at = j * reading_length(n, m);
     let h = layout::matrix_at(sensors, at, m, n);
     let w = layout::matrix_at(sensors, at + rows * columns, m, m);
     let z = layout::vector_at(sensors, at + rows * columns + rows * rows, m);
@@ -111,15 +111,16 @@ pub fn information_fuse_sensors(
     ensures { (result, filter.new) ≡ fuse_all_in n m i filter.old count sensors.now }
 {
     if are_sensors(n, m, i, filter.len(), count, sensors.len()) {
-        let from = filter.len() - (n + n * n);
+        let at = place_parts(n, m, i);
         let sn = size_of(n);
         let sm = size_of(m);
-        let mut xi = layout::vector_at(filter, from, sn);
-        let mut omega = layout::matrix_at(filter, from + n, sn, sn);
+        let mut xi = layout::vector_at(filter, at.x, sn);
+        let mut omega = layout::matrix_at(filter, at.p, sn, sn);
+        // Sensor j is three parts at places that j says.
         for j in 0..count {
             inform_by(sensors, j, sn, sm, &mut omega, &mut xi);
         }
-        layout::put_pair(filter, from, xi, &omega, sn);
+        layout::put_pair(filter, at.x, xi, &omega, sn);
         0
     } else {
         1

@@ -1,15 +1,14 @@
 // src/estimator/information_filter.rs on a slice that the caller lends: a filter of state n, measurement m and input i is a, b,
 // h, q, r, xi and omega by rows, one after another, as a linear filter is with its state and covariance. Its steps stand in
-// c_information_steps. Refused with 1: a size, or a slice of another length.
+// c_information_steps. Refused with 1, as the C interface has it: a size, or a slice of another length.
 #![tactic(auto)]
 
 ghost use Rattle.std.specs.Prelude.{◌≡◌, length};
 ghost use Rattle.answer.specs.Told.{given};
 ghost use Rattle.c_information.specs.Information.{reset_in, from_information_in, new_in, state_in, covariance_in, vector_in, matrix_in};
 
-use answer::Status;
-use c_copies::{is_filter, is_parts, is_step};
-use sizes::size_of;
+use c_copies::{is_parts, is_step, place_parts};
+use sizes::{both, size_of};
 
 // ---- another estimate
 
@@ -24,27 +23,26 @@ pub fn information_reset(
 ) -> u8
     ensures { (result, filter.new) ≡ reset_in n m i filter.old x0.now p0.now }
 {
-    if is_step(n, m, i, filter.len(), n, x0.len()) {
-        if p0.len() == n * n {
-            let from = filter.len() - (n + n * n);
-            let sn = size_of(n);
-            let x = layout::vector_at(x0, 0, sn);
-            let p = layout::matrix_at(p0, 0, sn, sn);
-            let mut omega = [[0.0; 4]; 4];
-            let mut xi = [0.0; 4];
-            let answer = information_steps::of_estimate(&x, &p, sn, &mut omega, &mut xi);
-            match answer {
-                Status::Done => {
-                    layout::put_pair(filter, from, xi, &omega, sn);
-                    return 0;
-                }
-                Status::Refused(number) => {
-                    return number;
-                }
+    let at = place_parts(n, m, i);
+    if both(
+        is_step(n, m, i, filter.len(), n, x0.len()),
+        p0.len() == at.square,
+    ) {
+        let sn = size_of(n);
+        let x = layout::vector_at(x0, 0, sn);
+        let p = layout::matrix_at(p0, 0, sn, sn);
+        let mut omega = [[0.0; 4]; 4];
+        let mut xi = [0.0; 4];
+        match information_steps::of_estimate(&x, &p, sn, &mut omega, &mut xi) {
+            Ok(()) => {
+                layout::put_pair(filter, at.x, xi, &omega, sn);
+                0
             }
+            Err(refusal) => u8::from(refusal),
         }
+    } else {
+        1
     }
-    1
 }
 
 // ---- a filter of its parts
@@ -107,15 +105,14 @@ pub fn information_new(
         let p = layout::matrix_at(p0, 0, sn, sn);
         let mut omega = [[0.0; 4]; 4];
         let mut xi = [0.0; 4];
-        let answer = information_steps::of_estimate(&x, &p, sn, &mut omega, &mut xi);
-        match answer {
-            Status::Done => {
-                let from = filter.len() - (n + n * n);
+        match information_steps::of_estimate(&x, &p, sn, &mut omega, &mut xi) {
+            Ok(()) => {
+                let at = place_parts(n, m, i);
                 c_copies::kalman_new(n, m, i, a, b, h, q, r, x0, p0, filter);
-                layout::put_pair(filter, from, xi, &omega, sn);
+                layout::put_pair(filter, at.x, xi, &omega, sn);
                 0
             }
-            Status::Refused(number) => number,
+            Err(refusal) => u8::from(refusal),
         }
     } else {
         1
@@ -129,19 +126,16 @@ pub fn information_state(n: usize, m: usize, i: usize, filter: &[f64], out: &mut
     ensures { (result, out.new) ≡ given out.old (state_in n m i filter.now (length out.old)) }
 {
     if is_step(n, m, i, filter.len(), n, out.len()) {
-        let from = filter.len() - (n + n * n);
+        let at = place_parts(n, m, i);
         let sn = size_of(n);
-        let xi = layout::vector_at(filter, from, sn);
-        let omega = layout::matrix_at(filter, from + n, sn, sn);
-        let x = information_steps::state(&omega, &xi, sn);
-        let status = x.status;
-        match status {
-            Status::Done => {
-                let cells = x.cells;
-                layout::put_vector(out, 0, cells, sn);
+        let xi = layout::vector_at(filter, at.x, sn);
+        let omega = layout::matrix_at(filter, at.p, sn, sn);
+        match information_steps::state(&omega, &xi, sn) {
+            Ok(x) => {
+                layout::put_vector(out, 0, x, sn);
                 0
             }
-            Status::Refused(number) => number,
+            Err(refusal) => u8::from(refusal),
         }
     } else {
         1
@@ -152,26 +146,20 @@ pub fn information_state(n: usize, m: usize, i: usize, filter: &[f64], out: &mut
 pub fn information_covariance(n: usize, m: usize, i: usize, filter: &[f64], out: &mut [f64]) -> u8
     ensures { (result, out.new) ≡ given out.old (covariance_in n m i filter.now (length out.old)) }
 {
-    if is_filter(n, m, i, filter.len()) {
-        if out.len() == n * n {
-            let from = filter.len() - n * n;
-            let sn = size_of(n);
-            let omega = layout::matrix_at(filter, from, sn, sn);
-            let p = inverse::inverse_of(&omega, sn);
-            let status = p.status;
-            match status {
-                Status::Done => {
-                    let rows = matrix::rows_of(p);
-                    layout::put_matrix(out, 0, &rows, sn, sn);
-                    return 0;
-                }
-                Status::Refused(number) => {
-                    return number;
-                }
+    let at = place_parts(n, m, i);
+    if is_step(n, m, i, filter.len(), at.square, out.len()) {
+        let sn = size_of(n);
+        let omega = layout::matrix_at(filter, at.p, sn, sn);
+        match inverse::inverse_of(&omega, sn) {
+            Ok(p) => {
+                layout::put_matrix(out, 0, &p, sn, sn);
+                0
             }
+            Err(refusal) => u8::from(refusal),
         }
+    } else {
+        1
     }
-    1
 }
 
 // Copies of omega, n rows of n numbers, and of xi, n numbers.

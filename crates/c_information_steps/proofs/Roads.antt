@@ -5,16 +5,14 @@ use mathlib.Core.Bool.{Bool}
 use Prim.Native.Nat.{ℕ}
 use lib.ListN.{length, set}
 use lib.Ieee.{Float}
-use Rattle.answer.specs.declared.Status.{Status}
-use Rattle.answer.specs.declared.Status.TheVariants.{Done, Refused}
-use Rattle.answer.specs.Answer.{Answer, refused, answered, mapped}
-use Rattle.answer.specs.Outcome.{Outcome, unchanged, this, if_fitting, ◌else_leave◌then◌}
-use Rattle.answer.proofs.Answers.{differ}
+use Rattle.std.specs.Prelude.{Ok, Err}
+use Rattle.answer.specs.declared.Refusal.{Refusal}
+use Rattle.answer.specs.Answer.{Answer, mapped}
+use Rattle.answer.specs.Told.{number}
+use Rattle.answer.specs.Outcome.{Outcome, unchanged, this, into, if_fitting, ◌else_leave◌then◌}
+use Rattle.answer.proofs.Answers.{differ, same_answer, same-refusal}
 use Rattle.algebra.specs.Matrix.{Vector, Matrix, at, one_by_one}
-use Rattle.matrix.specs.declared.ScalarResult.{ScalarResult}
-use Rattle.matrix.specs.declared.ScalarResult.TheVariants as Scalar
 use Rattle.matrix.specs.Result.{as_one}
-use Rattle.matrix.proofs.Results.{answered-value, refused-number}
 use Rattle.small_inverse.specs.Two.{inv_number}
 use Rattle.small_inverse.proofs.Two.{number_is}
 use Rattle.filtering.specs.Filter.{Sensor, innovation}
@@ -25,8 +23,8 @@ use Rattle.road.specs.declared.Pair.{Pair}
 use Rattle.road.specs.declared.Road.{Road}
 use Rattle.road.specs.Road.{Filter, estimate_of, road_of, sensor_of}
 use Rattle.information_steps.specs.Step.{update_by}
-use Rattle.information_steps.proofs.Ways.{Plain, plain, plain-predict, update_is}
-use Rattle.information_road.specs.Road.{information_of, sensing_of, stepped_of, updated_of}
+use Rattle.information_steps.proofs.Ways.{update_is}
+use Rattle.information_road.specs.Road.{information_of, updated_of}
 use Rattle.c_copies.specs.Filter.{motion_at, sensor_at, road_in, with_estimate}
 use Rattle.c_roads.proofs.Roads.{step-passed, with-passed, one_place}
 use Rattle.c_roads.proofs.Roads as Linear
@@ -37,14 +35,10 @@ use Rattle.c_information_steps.specs.Steps.{predict_in, outcome_in, update_in}
 abbrev kept : Filter → Information
 kept F = record { matrix = F.start.covariance; vector = F.start.state }
 
--- ---- a prediction: r is the road as the code has it, and v what is told to be left
-module _ {n m i : ℕ} (f u : List Float) (R : Linear.Road n m i (length f) (length u)) (r : Road) (read : road_of r ≡ road_in f) {s : Status} {v : Pair}
-    (e : (s, information_of v) ≡ stepped_of (information_of r.pair) (predict (road_of r).motion (at u 0 ∷ []) (information_of r.pair))) where
+-- ---- a prediction: r is the road as the code has it, and v what is told
+module _ {n m i : ℕ} (f u : List Float) (R : Linear.Road n m i (length f) (length u)) where
   abbrev outcome : Outcome Information (Unit {0})
   outcome = predict (motion_at 2 1 1 f) u (information_at 2 1 1 f)
-
-  same : (s, information_of v) ≡ stepped_of (information_at 2 1 1 f) outcome
-  same = e ∙ ap₂ (λ (G : Filter) (w : Vector). stepped_of (kept G) (predict G.motion w (kept G))) read (whole-vector 1 u R.one)
 
   by_sizes : {z : ℕ × List Float} → z ≡ stepped_in 2 1 1 f outcome → z ≡ predict_in n m i f u
   by_sizes p =
@@ -52,27 +46,24 @@ module _ {n m i : ℕ} (f u : List Float) (R : Linear.Road n m i (length f) (len
       ∙ ap (λ (b : Bool). stepped_in 2 1 1 f (if_fitting b outcome)) (sym (step-passed R.long R.one))
       ∙ (λ t. predict_in (sym R.states t) (sym R.measurements t) (sym R.inputs t) f u)
 
-  pub predicts : {g : List Float} → s ≡ Done → g ≡ with_estimate 2 1 1 f (estimate_of v) → (0, g) ≡ predict_in n m i f u
-  predicts {g} d p = by_sizes (go (plain-predict (motion_at 2 1 1 f) u (information_at 2 1 1 f)) same)
-    where
-      go : {o : Outcome Information (Unit {0})} → Plain 2 o → (s, information_of v) ≡ stepped_of (information_at 2 1 1 f) o → (0, g) ≡ stepped_in 2 1 1 f o
-      go (plain (refused j) l) q = let z : ◌≡◌ {A = Status} Done (Refused j) = sym d ∙ (λ t. (q t).0) in cc
-      go (plain (answered w) l) q = λ t. (0, (p ∙ λ t. with_information 2 1 1 f (q t).1) t)
+  module _ (r : Road) (read : road_of r ≡ road_in f) {v : Answer Pair}
+      (e : into (mapped information_of v) ≡ predict (road_of r).motion (at u 0 ∷ []) (information_of r.pair)) where
+    -- by what is told
+    told : {w : Answer Pair} → v ≡ w → stepped_in 2 1 1 f (into (mapped information_of w)) ≡ stepped_in 2 1 1 f outcome
+    told d =
+        let same = e ∙ ap₂ (λ (G : Filter) (w : Vector). predict G.motion w (kept G)) read (whole-vector 1 u R.one) in
+        ap (λ (w : Answer Pair). stepped_in 2 1 1 f (into (mapped information_of w))) (sym d) ∙ ap (stepped_in 2 1 1 f) same
 
-  pub stops : {k : ℕ} → s ≡ Refused k → (k, f) ≡ predict_in n m i f u
-  stops {k} d = by_sizes (go (plain-predict (motion_at 2 1 1 f) u (information_at 2 1 1 f)) same)
-    where
-      go : {o : Outcome Information (Unit {0})} → Plain 2 o → (s, information_of v) ≡ stepped_of (information_at 2 1 1 f) o → (k, f) ≡ stepped_in 2 1 1 f o
-      go (plain (refused j) l) q =
-          let z : ◌≡◌ {A = Status} (Refused k) (Refused j) = sym d ∙ (λ t. (q t).0) in
-          let number : k ≡ j = cc in
-          λ t. (number t, f)
-      go (plain (answered w) l) q = let z : ◌≡◌ {A = Status} Done (Refused k) = (λ t. (sym q t).0) ∙ d in cc
+    pub predicts : {o : Pair} {g : List Float} → v ≡ Ok o → g ≡ with_estimate 2 1 1 f (estimate_of o) → (0, g) ≡ predict_in n m i f u
+    predicts d p = by_sizes ((λ t. (0, p t)) ∙ told d)
+
+    pub stops : {k : Refusal} → v ≡ Err k → (number k, f) ≡ predict_in n m i f u
+    stops d = by_sizes (told d)
 
 -- ---- an update, by what the inversion of its one noise answers; y held the innovation's place
 module _ {n m i : ℕ} (f z y : List Float) (R : Linear.Road n m i (length f) (length z)) (ly : length y ≡ 1) (r : Road) (read : road_of r ≡ road_in f) where
   abbrev S : Sensor Matrix
-  S = sensor_of r.h0 r.h1 r.r
+  S = sensor_of r.sensor
 
   abbrev Z : Vector
   Z = at z 0 ∷ []
@@ -88,14 +79,14 @@ module _ {n m i : ℕ} (f z y : List Float) (R : Linear.Road n m i (length f) (l
       ∙ ap (λ (b : Bool). outcome_in 2 1 1 f y (if_fitting b (update (sensor_at 2 1 1 f) z (information_at 2 1 1 f)))) (sym (with-passed R.long R.one ly))
       ∙ (λ t. update_in (sym R.states t) (sym R.measurements t) (sym R.inputs t) f z y)
 
-  by_noise : {a : Answer Float} → inv_number r.r ≡ a → update S Z O ≡ (mapped one_by_one a else_leave unchanged then update_by S Z O)
-  by_noise q = update_is S Z O ∙ ap (λ (a : Answer Matrix). a else_leave unchanged then update_by S Z O) (number_is r.r ∙ ap (mapped one_by_one) q)
+  by_noise : {a : Answer Float} → inv_number r.sensor.r ≡ a → update S Z O ≡ (mapped one_by_one a else_leave unchanged then update_by S Z O)
+  by_noise q = update_is S Z O ∙ ap (λ (a : Answer Matrix). a else_leave unchanged then update_by S Z O) (number_is r.sensor.r ∙ ap (mapped one_by_one) q)
 
-  pub not_updated : {k : ℕ} → inv_number r.r ≡ refused k → (k, (f, y)) ≡ update_in n m i f z y
+  pub not_updated : {k : Refusal} → inv_number r.sensor.r ≡ Err k → (number k, (f, y)) ≡ update_in n m i f z y
   not_updated q = by_road (sym (ap (outcome_in 2 1 1 f y) (by_noise q)))
 
-  module _ {w : Float} (q : inv_number r.r ≡ answered w) {a : ScalarResult} {v : Pair}
-      (e : (a, information_of v) ≡ updated_of O (update_by (sensing_of r.h0 r.h1) Z O ((w ∷ []) ∷ []))) {g : List Float} (p : g ≡ with_estimate 2 1 1 f (estimate_of v)) where
+  module _ {w : Float} (q : inv_number r.sensor.r ≡ Ok w) {a : Answer Float} {v : Pair}
+      (e : (a, information_of v) ≡ updated_of O (update_by S Z O ((w ∷ []) ∷ []))) {g : List Float} (p : g ≡ with_estimate 2 1 1 f (estimate_of v)) where
     abbrev o' : Information
     o' = informed 2 1 S.h (one_by_one w) Z O
 
@@ -105,24 +96,20 @@ module _ {n m i : ℕ} (f z y : List Float) (R : Linear.Road n m i (length f) (l
     left : g ≡ with_information 2 1 1 f o'
     left = p ∙ λ t. with_information 2 1 1 f (e t).1
 
-    pub updates : {x : Float} → a ≡ Scalar.Value x → (0, (g, set y 0 x)) ≡ update_in n m i f z y
+    pub updates : {x : Float} → a ≡ Ok x → (0, (g, set y 0 x)) ≡ update_in n m i f z y
     updates {x} d = by_road (go (state 2 o') (λ t. (e t).0) ∙ sym (ap (outcome_in 2 1 1 f y) (by_noise q)))
       where
         go : (b : Answer Vector) → a ≡ as_one (mapped (λ x. innovation 1 2 S.h x Z) b) → (0, (g, set y 0 x)) ≡ of b
-        go (refused j) c = absurd (differ (answered-value (refused j) c d))
-        go (answered x') c =
+        go (Err j) c = absurd (differ (sym c ∙ d))
+        go (Ok x') c =
             let told = innovation 1 2 S.h x' Z in
-            let is : ◌≡◌ {A = Answer Float} (answered (at told 0)) (answered x) = answered-value (answered (at told 0)) c d in
-            let number : x ≡ at told 0 = cc in
-            let there : set y 0 x ≡ told = one_place y x ly ∙ ap (λ (k : Float). k ∷ []) number ∙ whole-vector 1 told (length-innovation 1 2 S.h x' Z) in
+            let is : x ≡ at told 0 = same_answer (sym d ∙ c) in
+            let there : set y 0 x ≡ told = one_place y x ly ∙ ap (λ (k : Float). k ∷ []) is ∙ whole-vector 1 told (length-innovation 1 2 S.h x' Z) in
             λ t. (0, (left t, there t))
 
-    pub refuses : {k : ℕ} → a ≡ Scalar.Refused k → (k, (g, y)) ≡ update_in n m i f z y
+    pub refuses : {k : Refusal} → a ≡ Err k → (number k, (g, y)) ≡ update_in n m i f z y
     refuses {k} d = by_road (go (state 2 o') (λ t. (e t).0) ∙ sym (ap (outcome_in 2 1 1 f y) (by_noise q)))
       where
-        go : (b : Answer Vector) → a ≡ as_one (mapped (λ x. innovation 1 2 S.h x Z) b) → (k, (g, y)) ≡ of b
-        go (refused j) c =
-            let is : ◌≡◌ {A = Answer Float} (refused j) (refused k) = refused-number (refused j) c d in
-            let number : k ≡ j = cc in
-            λ t. (number t, (left t, y))
-        go (answered x') c = absurd (differ (sym (refused-number (answered (at (innovation 1 2 S.h x' Z) 0)) c d)))
+        go : (b : Answer Vector) → a ≡ as_one (mapped (λ x. innovation 1 2 S.h x Z) b) → (number k, (g, y)) ≡ of b
+        go (Err j) c = let same = same-refusal (sym d ∙ c) in λ t. (number (same t), (left t, y))
+        go (Ok x') c = absurd (differ (sym d ∙ c))

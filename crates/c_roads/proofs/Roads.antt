@@ -8,16 +8,16 @@ use lib.Dec.{eqb}
 use lib.ListN.{length, set}
 use lib.Ieee.{Float}
 use borrow.Author.Tests.{eqb-true, eq-eqb}
-use Rattle.answer.specs.Answer.{Answer, refused, answered}
+use Rattle.std.specs.Prelude.{Ok, Err}
+use Rattle.answer.specs.Answer.{Answer}
 use Rattle.answer.specs.Outcome.{Outcome, done, if_fitting}
 use Rattle.answer.proofs.Choice.{and_left, and_right}
-use Rattle.answer.proofs.Answers.{differ}
+use Rattle.answer.proofs.Answers.{differ, same_answer, same-refusal}
+use Rattle.answer.specs.declared.Refusal.{Refusal}
+use Rattle.answer.specs.Told.{number}
 use Rattle.scalar.specs.Number.{+0}
 use Rattle.algebra.specs.Matrix.{Vector, at}
-use Rattle.matrix.specs.declared.ScalarResult.{ScalarResult}
-use Rattle.matrix.specs.declared.ScalarResult.TheVariants as Scalar
 use Rattle.sizes.specs.Size.{sized}
-use Rattle.matrix.proofs.Results.{answered-value, refused-number}
 use Rattle.filtering.specs.Filter.{Estimate}
 use Rattle.filtering.specs.Linear.{predict, update}
 use Rattle.filtering.proofs.Shapes.{Way, stopped, went, way}
@@ -49,6 +49,16 @@ road_of n m i k j e =
       long = eqb-true k 19 (and_left _ _ l);
       one = eqb-true j 1 (and_right (eqb k 19) _ l);
     }
+
+-- the tests of an update, as the code makes them: of the road, and of the innovation's place
+pub record Passed (n m i k j l : ℕ) : Type 0 where
+  pub road : Road n m i k j
+  pub room : l ≡ 1
+
+pub passed_of : (n m i k j l : ℕ) {t u : Bool} → t ≡ is_road n m i k j → u ≡ t && eqb l 1 → u ≡ true → Passed n m i k j l
+passed_of n m i k j l e d q =
+    let all = sym (d ∙ ap (λ (b : Bool). b && eqb l 1) e) ∙ q in
+    record { road = road_of n m i k j (and_left _ _ all); room = eqb-true l 1 (and_right (is_road n m i k j) _ all) }
 
 -- what is read of its slice, and put into it
 pub road_read : (f : List Float) {F : Filter} → length f ≡ 19 → F ≡ cond (eqb (length f) 19) (road_in f) (tracker_of +0 +0 +0) → F ≡ road_in f
@@ -82,7 +92,7 @@ one_place [] x l = absurd (omega arith)
 one_place (z ∷ []) x l = refl
 one_place (z ∷ w ∷ y) x l = absurd (omega arith)
 
-module _ {n m i : ℕ} (f z y : List Float) (R : Road n m i (length f) (length z)) (ly : length y ≡ 1) {F : Filter} (read : F ≡ road_in f) {a : ScalarResult} {e : Estimate}
+module _ {n m i : ℕ} (f z y : List Float) (R : Road n m i (length f) (length z)) (ly : length y ≡ 1) {F : Filter} (read : F ≡ road_in f) {a : Answer Float} {e : Estimate}
     (s : (a, e) ≡ updated_of F.start (update F.sensor (at z 0 ∷ []) F.start)) where
   abbrev outcome : Outcome Estimate Vector
   outcome = update (sensor_at 2 1 1 f) z (estimate_at 2 1 1 f)
@@ -97,23 +107,19 @@ module _ {n m i : ℕ} (f z y : List Float) (R : Road n m i (length f) (length z
       ∙ ap (λ (b : Bool). outcome_in 2 1 1 f y (if_fitting b outcome)) (sym (with-passed R.long R.one ly))
       ∙ (λ t. update_in (sym R.states t) (sym R.measurements t) (sym R.inputs t) f z y)
 
-  pub updates : {x : Float} {g : List Float} → a ≡ Scalar.Value x → g ≡ with_estimate 2 1 1 f e → (0, (g, set y 0 x)) ≡ update_in n m i f z y
+  pub updates : {x : Float} {g : List Float} → a ≡ Ok x → g ≡ with_estimate 2 1 1 f e → (0, (g, set y 0 x)) ≡ update_in n m i f z y
   updates {x} {g} d p = by_sizes (go outcome (way _ _ _) same)
     where
       go : (o : Outcome Estimate Vector) → Way 2 1 o → (a, e) ≡ updated_of (estimate_at 2 1 1 f) o → (0, (g, set y 0 x)) ≡ outcome_in 2 1 1 f y o
-      go o (stopped k) q = absurd (differ (answered-value (refused k) (λ t. (q t).0) d))
+      go o (stopped k) q = absurd (differ ((λ t. (sym q t).0) ∙ d))
       go o (went c b lc sb) q =
-          let told : ◌≡◌ {A = Answer Float} (answered (at c 0)) (answered x) = answered-value (answered (at c 0)) (λ t. (q t).0) d in
-          let number : x ≡ at c 0 = cc in
-          let there : set y 0 x ≡ c = one_place y x ly ∙ ap (λ (w : Float). w ∷ []) number ∙ whole-vector 1 c lc in
+          let told : x ≡ at c 0 = same_answer (sym d ∙ λ t. (q t).0) in
+          let there : set y 0 x ≡ c = one_place y x ly ∙ ap (λ (w : Float). w ∷ []) told ∙ whole-vector 1 c lc in
           λ t. (0, ((p ∙ ap (with_estimate 2 1 1 f) (λ t. (q t).1)) t, there t))
 
-  pub refuses : {k : ℕ} → a ≡ Scalar.Refused k → (k, (f, y)) ≡ update_in n m i f z y
+  pub refuses : {k : Refusal} → a ≡ Err k → (number k, (f, y)) ≡ update_in n m i f z y
   refuses {k} d = by_sizes (go outcome (way _ _ _) same)
     where
-      go : (o : Outcome Estimate Vector) → Way 2 1 o → (a, e) ≡ updated_of (estimate_at 2 1 1 f) o → (k, (f, y)) ≡ outcome_in 2 1 1 f y o
-      go o (stopped j) q =
-          let told : ◌≡◌ {A = Answer Float} (refused j) (refused k) = refused-number (refused j) (λ t. (q t).0) d in
-          let number : k ≡ j = cc in
-          λ t. (number t, (f, y))
-      go o (went c b lc sb) q = absurd (differ (sym (refused-number (answered (at c 0)) (λ t. (q t).0) d)))
+      go : (o : Outcome Estimate Vector) → Way 2 1 o → (a, e) ≡ updated_of (estimate_at 2 1 1 f) o → (number k, (f, y)) ≡ outcome_in 2 1 1 f y o
+      go o (stopped j) q = let told : k ≡ j = same-refusal (sym d ∙ λ t. (q t).0) in λ t. (number (told t), (f, y))
+      go o (went c b lc sb) q = absurd (differ (sym d ∙ λ t. (q t).0))

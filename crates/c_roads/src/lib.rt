@@ -10,7 +10,7 @@ ghost use Rattle.layout.specs.Layout.{put_at};
 ghost use Rattle.c_roads.specs.Plane.{is_plane};
 ghost use Rattle.c_copies.specs.Filter.{is_road, road_in, estimate_numbers, filter_numbers, tracker_in};
 
-use road::{Pair, Road, Two};
+use road::{Motion, Pair, Road, Sensor, Two};
 use sizes::both;
 
 // ---- the sizes that are written out
@@ -36,38 +36,38 @@ fn whole_road(f: &[f64]) -> Road
     requires { length f.now ≡ 19 }
     ensures { road_of result ≡ road_in f.now }
 {
-    let a = Two {
-        a: f[0],
-        b: f[1],
-        c: f[2],
-        d: f[3],
-    };
-    let q = Two {
-        a: f[8],
-        b: f[9],
-        c: f[10],
-        d: f[11],
-    };
-    let p = Two {
-        a: f[15],
-        b: f[16],
-        c: f[17],
-        d: f[18],
-    };
-    let pair = Pair {
-        x0: f[13],
-        x1: f[14],
-        p,
-    };
     Road {
-        a,
-        b0: f[4],
-        b1: f[5],
-        h0: f[6],
-        h1: f[7],
-        q,
-        r: f[12],
-        pair,
+        motion: Motion {
+            a: Two {
+                a: f[0],
+                b: f[1],
+                c: f[2],
+                d: f[3],
+            },
+            b0: f[4],
+            b1: f[5],
+            q: Two {
+                a: f[8],
+                b: f[9],
+                c: f[10],
+                d: f[11],
+            },
+        },
+        sensor: Sensor {
+            h0: f[6],
+            h1: f[7],
+            r: f[12],
+        },
+        pair: Pair {
+            x0: f[13],
+            x1: f[14],
+            p: Two {
+                a: f[15],
+                b: f[16],
+                c: f[17],
+                d: f[18],
+            },
+        },
     }
 }
 
@@ -78,7 +78,7 @@ pub fn road_at(f: &[f64]) -> Road
     if f.len() == 19 {
         whole_road(f)
     } else {
-        road::position_velocity(0.0, 0.0, 0.0)
+        Road::position_velocity(0.0, 0.0, 0.0)
     }
 }
 
@@ -97,17 +97,15 @@ pub fn put_road(f: &mut [f64], e: Pair)
 fn road_numbers(f: Road) -> [f64; 19]
     ensures { result ≡ filter_numbers (road_of f) }
 {
-    let a = f.a;
-    let q = f.q;
-    let e = f.pair;
-    let p = e.p;
+    let Motion { a, b0, b1, q } = f.motion;
+    let Sensor { h0, h1, r } = f.sensor;
+    let Pair { x0, x1, p } = f.pair;
     [
-        a.a, a.b, a.c, a.d, f.b0, f.b1, f.h0, f.h1, q.a, q.b, q.c, q.d, f.r, e.x0, e.x1, p.a, p.b,
-        p.c, p.d,
+        a.a, a.b, a.c, a.d, b0, b1, h0, h1, q.a, q.b, q.c, q.d, r, x0, x1, p.a, p.b, p.c, p.d,
     ]
 }
 
-// A filter of 19 numbers that tracks position and speed, with the step dt in seconds.
+// A filter of 19 numbers that tracks position and speed, with the step dt in seconds. It tells a number: the C interface.
 pub fn kalman_position_velocity(
     dt: f64,
     process_noise: f64,
@@ -117,7 +115,7 @@ pub fn kalman_position_velocity(
     ensures { (result, filter.new) ≡ given filter.old (tracker_in dt process_noise measurement_noise (length filter.old)) }
 {
     if filter.len() == 19 {
-        let numbers = road_numbers(road::position_velocity(dt, process_noise, measurement_noise));
+        let numbers = road_numbers(Road::position_velocity(dt, process_noise, measurement_noise));
         layout::put_slice(filter, 0, &numbers[..]);
         0
     } else {

@@ -4,73 +4,44 @@
 #![tactic(auto)]
 
 ghost use Rattle.std.specs.Prelude.{◌≡◌};
-ghost use Rattle.fusion.specs.Fusion.{begun_of, joined_of, ended_of, fused_of};
+ghost use Rattle.fusion.specs.Fusion.{begun_of, joined_all, kept_of, fused_of};
 
-use answer::Status;
-use information_filter::{InformationFilter, Sensor, Stepped};
-use steps::is_well_sized;
+use answer::{Refusal, Step};
+use information_filter::{InformationFilter, Sensor};
 
-// Before the first sensor.
-fn begun(f: InformationFilter) -> Stepped
-    ensures { result ≡ begun_of f }
+// The filter that all sensors leave, or the first refusal.
+fn fused(f: InformationFilter, sensors: &[Sensor]) -> Result<InformationFilter, Refusal>
+    ensures { result ≡ kept_of (joined_all (begun_of f) sensors.now) }
 {
-    if is_well_sized(f.n, f.m, f.i) {
-        Stepped {
-            answer: Status::Done,
-            filter: f,
-        }
-    } else {
-        Stepped {
-            answer: Status::Refused(1),
-            filter: f,
-        }
+    steps::sized(f.n, f.m, f.i)?;
+    let mut g = f;
+    for s in sensors {
+        let step = g.fuse_sensor(*s);
+        step.answer?;
+        g = step.left;
     }
+    Ok(g)
 }
 
-// One sensor more. Nothing more is done once one was refused.
-fn joined(g: Stepped, s: Sensor) -> Stepped
-    ensures { result ≡ joined_of g s }
+pub fn fuse_sensors(f: InformationFilter, sensors: &[Sensor]) -> Step<(), InformationFilter>
+    ensures { result ≡ fused_of f sensors.now }
 {
-    let told = g.answer;
-    match told {
-        Status::Done => g.filter.fuse_sensor(s),
-        Status::Refused(_) => g,
-    }
-}
-
-// After the last: a refusal leaves the filter as it was.
-fn ended(g: Stepped, old: InformationFilter) -> Stepped
-    ensures { result ≡ ended_of g old }
-{
-    let told = g.answer;
-    match told {
-        Status::Done => g,
-        Status::Refused(number) => Stepped {
-            answer: Status::Refused(number),
-            filter: old,
+    match fused(f, sensors) {
+        Ok(left) => Step {
+            answer: Ok(()),
+            left,
+        },
+        Err(refusal) => Step {
+            answer: Err(refusal),
+            left: f,
         },
     }
 }
 
-pub fn fuse_sensors(f: InformationFilter, sensors: &[Sensor]) -> Stepped
-    ensures { result ≡ fused_of f sensors.now }
-{
-    let mut g = begun(f);
-    let mut i = 0;
-    while i < sensors.len() {
-        let s = sensors[i];
-        g = joined(g, s);
-        i += 1;
-    }
-    ended(g, f)
-}
-
 // On a filter that the caller lends.
-pub fn fuse_sensors_lent(f: &mut InformationFilter, sensors: &[Sensor]) -> Status
+pub fn fuse_sensors_lent(f: &mut InformationFilter, sensors: &[Sensor]) -> Result<(), Refusal>
     ensures { (result ≡ (fused_of f.old sensors.now).answer)
-        × (f.new ≡ (fused_of f.old sensors.now).filter) }
+        × (f.new ≡ (fused_of f.old sensors.now).left) }
 {
-    let r = fuse_sensors(*f, sensors);
-    *f = r.filter;
-    r.answer
+    lent::into_place(fuse_sensors(*f, sensors), f)
 }

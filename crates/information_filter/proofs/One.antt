@@ -1,16 +1,16 @@
 -- One reading: what an update tells as a number. Assumes nothing.
 use mathlib.Core.Path.{◌≡◌, sym, ap, ◌∙◌}
-use mathlib.Core.List.{[], ◌∷◌}
-use Prim.Native.Nat.{ℕ}
+use mathlib.Core.List.{List, [], ◌∷◌}
 use lib.ListN.{length}
 use lib.Ieee.{Float}
-use Rattle.answer.specs.declared.Status.TheVariants.{Done, Refused}
-use Rattle.answer.specs.Answer.{Answer, refused, answered, mapped}
+use Rattle.std.specs.Prelude.{Ok, Err}
+use Rattle.answer.specs.declared.Refusal.{Refusal}
+use Rattle.answer.specs.declared.Step.{Step}
+use Rattle.answer.specs.Answer.{Answer, mapped}
 use Rattle.answer.specs.Outcome.{Outcome, unchanged, standing, ◌else_leave◌then◌}
 use Rattle.answer.proofs.Answers.{differ, same_answer}
 use Rattle.algebra.specs.Matrix.{Vector, Matrix, at}
 use Rattle.algebra.specs.Inverse.{inv}
-use Rattle.matrix.specs.declared.ScalarResult.TheVariants as Scalar
 use Rattle.matrix.specs.Result.{as_vector}
 use Rattle.filtering.specs.Filter.{Sensor, innovation}
 use Rattle.filtering.specs.Information.{Information, informed, state, update}
@@ -20,35 +20,33 @@ use Rattle.steps.proofs.Records.{one_value, one_no_value, one_of_four, same-one,
 use Rattle.information_steps.specs.Step.{update_by}
 use Rattle.information_steps.proofs.Ways.{update_is}
 use Rattle.information_filter.specs.declared.InformationFilter.{InformationFilter}
-use Rattle.information_filter.specs.declared.Updated.{Updated}
-use Rattle.information_filter.specs.declared.UpdatedOne.{UpdatedOne}
 use Rattle.information_filter.specs.Record.{held, holding, updating, update_of, update_one_of}
 
 -- an update tells m numbers
-told-length : (Y : Sensor Matrix) (z : Vector) (o : Information) (y : Vector) → (update Y z o).told ≡ answered y → length y ≡ Y.m
+told-length : (Y : Sensor Matrix) (z : Vector) (o : Information) (y : Vector) → (update Y z o).told ≡ Ok y → length y ≡ Y.m
 told-length Y z o y q = go (inv Y.m Y.r) ((λ t. (sym (update_is Y z o) t).told) ∙ q)
   where
-    last : (a : Answer Vector) → mapped (λ x. innovation Y.m Y.n Y.h x z) a ≡ answered y → length y ≡ Y.m
-    last (refused k) q = absurd (differ q)
-    last (answered x) q = ap length (sym (same_answer q)) ∙ length-innovation Y.m Y.n Y.h x z
+    last : (a : Answer Vector) → mapped (λ x. innovation Y.m Y.n Y.h x z) a ≡ Ok y → length y ≡ Y.m
+    last (Err k) q = absurd (differ q)
+    last (Ok x) q = ap length (sym (same_answer q)) ∙ length-innovation Y.m Y.n Y.h x z
 
-    go : (a : Answer Matrix) → (a else_leave unchanged then update_by Y z o).told ≡ answered y → length y ≡ Y.m
-    go (refused k) q = absurd (differ q)
-    go (answered W) q = last (state Y.n (informed Y.n Y.m Y.h W z o)) q
+    go : (a : Answer Matrix) → (a else_leave unchanged then update_by Y z o).told ≡ Ok y → length y ≡ Y.m
+    go (Err k) q = absurd (differ q)
+    go (Ok W) q = last (state Y.n (informed Y.n Y.m Y.h W z o)) q
 
 module _ (f : InformationFilter) (z : Float) where
   abbrev by : Vector → Outcome Information Vector
   by v = update (sensor_flat f.n f.m f.h f.r) v (held f)
 
-  long : (y : Vector) → (updating f (z ∷ []) 1).told ≡ answered y → length y ≡ 1
+  long : (y : Vector) → (updating f (z ∷ []) 1).told ≡ Ok y → length y ≡ 1
   long = one_told f.n f.m f.i by z (told-length _ _ _)
 
-  module _ {u : Updated} (e : u ≡ update_of f (one_of_four f.n f.m f.i by z) 1) where
-    told : u ≡ record { answer = as_vector (updating f (z ∷ []) 1).told; filter = standing (holding f) f (updating f (z ∷ []) 1).left }
-    told = e ∙ λ k. let o = same-one f.n f.m f.i by z k in record { answer = as_vector o.told; filter = standing (holding f) f o.left }
+  module _ {u : Step (List Float) InformationFilter} (e : u ≡ update_of f (one_of_four f.n f.m f.i by z) 1) where
+    told : u ≡ record { answer = as_vector (updating f (z ∷ []) 1).told; left = standing (holding f) f (updating f (z ∷ []) 1).left }
+    told = e ∙ λ k. let o = same-one f.n f.m f.i by z k in record { answer = as_vector o.told; left = standing (holding f) f o.left }
 
-    pub one-answered : u.answer.status ≡ Done → ◌≡◌ {A = UpdatedOne} (record { answer = Scalar.Value (at u.answer.cells 0); filter = u.filter }) (update_one_of f z)
-    one-answered s = λ k. record { answer = one_value (updating f (z ∷ []) 1).told long (λ k. (told k).answer) s k; filter = (told k).filter }
+    pub one-answered : {y : List Float} → u.answer ≡ Ok y → ◌≡◌ {A = Step Float InformationFilter} (record { answer = Ok (at y 0); left = u.left }) (update_one_of f z)
+    one-answered s = λ k. record { answer = one_value (updating f (z ∷ []) 1).told long (λ k. (told k).answer) s k; left = (told k).left }
 
-    pub one-refused : {k : ℕ} → u.answer.status ≡ Refused k → ◌≡◌ {A = UpdatedOne} (record { answer = Scalar.Refused k; filter = u.filter }) (update_one_of f z)
-    one-refused s = λ k. record { answer = one_no_value (updating f (z ∷ []) 1).told (λ k. (told k).answer) s k; filter = (told k).filter }
+    pub one-refused : {k : Refusal} → u.answer ≡ Err k → ◌≡◌ {A = Step Float InformationFilter} (record { answer = Err k; left = u.left }) (update_one_of f z)
+    one-refused s = λ k. record { answer = one_no_value (updating f (z ∷ []) 1).told (λ k. (told k).answer) s k; left = (told k).left }

@@ -1,24 +1,18 @@
 -- The information filter's record of the code: what it holds, and what each method makes of it. Definitions only.
 use Rattle.std.specs.Prelude.{ℕ, List, [], ◌∷◌, Bool, ◌&&◌, eqb, Float}
+use Rattle.answer.specs.declared.Step.{Step}
 use Rattle.answer.specs.Answer.{Answer, where_sized, if_sized, mapped}
 use Rattle.answer.specs.Outcome.{Outcome, done, into, if_fitting, handed}
-use Rattle.answer.specs.Told.{status_of}
 use Rattle.algebra.specs.Matrix.{Vector, Matrix}
 use Rattle.algebra.specs.Array.{cut, used, used_flat, pad_row}
-use Rattle.matrix.specs.declared.MatrixResult.{MatrixResult}
-use Rattle.matrix.specs.declared.VectorResult.{VectorResult}
-use Rattle.matrix.specs.Result.{as_matrix, as_vector}
+use Rattle.matrix.specs.Result.{as_matrix, as_vector, as_one}
 use Rattle.filtering.specs.Filter.{Motion, Estimate}
 use Rattle.filtering.specs.Filter as Filter
 use Rattle.filtering.specs.Information.{Information, of_estimate, covariance, state, predict, informed, update}
 use Rattle.steps.specs.Step.{well_sized, fitting}
 use Rattle.steps.specs.Flat.{flat, motion_flat, sensor_flat, estimate_from}
-use Rattle.matrix.specs.Result.{as_one}
 use Rattle.information_filter.specs.declared.InformationFilter.{InformationFilter}
 use Rattle.information_filter.specs.declared.Sensor.{Sensor}
-use Rattle.information_filter.specs.declared.Stepped.{Stepped}
-use Rattle.information_filter.specs.declared.Updated.{Updated}
-use Rattle.information_filter.specs.declared.UpdatedOne.{UpdatedOne}
 
 -- ---- Ω and Ω x in the numbers of a record, and in arrays of rows
 abbrev pub information_flat : ℕ → List Float → List Float → Information
@@ -66,10 +60,6 @@ holding f o = keeping f (flats_of o)
 abbrev pub held : InformationFilter → Information
 held f = information_flat f.n f.omega f.xi
 
--- no sizes, and +0 everywhere
-abbrev pub no_filter : InformationFilter
-no_filter = record_of (record { n = 0; i = 0; a = []; b = []; q = [] }) (record { n = 0; m = 0; h = []; r = [] }) (record { matrix = []; vector = [] })
-
 -- ---- the outcome of each step: 1 where a size does not fit, else that of the filter
 abbrev pub predicting : InformationFilter → List Float → ℕ → Outcome Information (Unit {0})
 predicting f u k = if_fitting (fitting f.n f.m f.i f.i k) (predict (motion_flat f.n f.i f.a f.b f.q) (cut f.i u) (held f))
@@ -96,35 +86,31 @@ abbrev pub resetting : InformationFilter → List Float → List (List Float) �
 resetting f x p k = if_fitting (fitting f.n f.m f.i f.n k) (into (of_estimate f.n (estimate_from f.n x p)))
 
 -- ---- what each method hands back: its answer, and the filter that it leaves
-abbrev pub stepped : InformationFilter → Outcome Information (Unit {0}) → Stepped
-stepped f o = let w = handed status_of (holding f) f o in record { answer = w.0; filter = w.1 }
+abbrev pub stepped : InformationFilter → Outcome Information (Unit {0}) → Step (Unit {0}) InformationFilter
+stepped f o = let w = handed (λ t. t) (holding f) f o in record { answer = w.0; left = w.1 }
 
-abbrev pub update_of : InformationFilter → List Float → ℕ → Updated
-update_of f z k = let w = handed as_vector (holding f) f (updating f (cut f.m z) k) in record { answer = w.0; filter = w.1 }
+abbrev pub update_of : InformationFilter → List Float → ℕ → Step (List Float) InformationFilter
+update_of f z k = let w = handed as_vector (holding f) f (updating f (cut f.m z) k) in record { answer = w.0; left = w.1 }
 
 -- one reading: the innovation is a number
-abbrev pub update_one_of : InformationFilter → Float → UpdatedOne
-update_one_of f z = let w = handed as_one (holding f) f (updating f (z ∷ []) 1) in record { answer = w.0; filter = w.1 }
+abbrev pub update_one_of : InformationFilter → Float → Step Float InformationFilter
+update_one_of f z = let w = handed as_one (holding f) f (updating f (z ∷ []) 1) in record { answer = w.0; left = w.1 }
 
--- beside a refusal there is no filter
-abbrev pub made : Answer InformationFilter → Stepped
-made a = let w = handed status_of (λ f. f) no_filter (into a) in record { answer = w.0; filter = w.1 }
+abbrev pub new_of : Motion → Filter.Sensor Matrix → Estimate → Answer InformationFilter
+new_of M Y e = if_sized (well_sized M.n Y.m M.i) (mapped (record_of M Y) (of_estimate M.n e))
 
-abbrev pub new_of : Motion → Filter.Sensor Matrix → Estimate → Stepped
-new_of M Y e = made (if_sized (well_sized M.n Y.m M.i) (mapped (record_of M Y) (of_estimate M.n e)))
-
-abbrev pub from_information_of : Motion → Filter.Sensor Matrix → Information → Stepped
-from_information_of M Y o = made (where_sized (well_sized M.n Y.m M.i) (record_of M Y o))
+abbrev pub from_information_of : Motion → Filter.Sensor Matrix → Information → Answer InformationFilter
+from_information_of M Y o = where_sized (well_sized M.n Y.m M.i) (record_of M Y o)
 
 -- ---- what is read from a record
-abbrev pub state_of : InformationFilter → VectorResult
+abbrev pub state_of : InformationFilter → Answer (List Float)
 state_of f = as_vector (if_sized (well_sized f.n f.m f.i) (state f.n (held f)))
 
-abbrev pub covariance_of : InformationFilter → MatrixResult
+abbrev pub covariance_of : InformationFilter → Answer (List (List Float))
 covariance_of f = as_matrix (if_sized (well_sized f.n f.m f.i) (covariance f.n (held f)))
 
-abbrev pub matrix_of : InformationFilter → MatrixResult
+abbrev pub matrix_of : InformationFilter → Answer (List (List Float))
 matrix_of f = as_matrix (where_sized (well_sized f.n f.m f.i) (held f).matrix)
 
-abbrev pub vector_of : InformationFilter → VectorResult
+abbrev pub vector_of : InformationFilter → Answer (List Float)
 vector_of f = as_vector (where_sized (well_sized f.n f.m f.i) (held f).vector)

@@ -5,7 +5,6 @@
 
 ghost use Rattle.std.specs.Prelude.{◌≡◌, []};
 ghost use Rattle.answer.specs.Outcome.{into, handed};
-ghost use Rattle.answer.specs.Told.{status_of};
 ghost use Rattle.algebra.specs.Array.{pad_row, pad, used};
 ghost use Rattle.sizes.specs.Size.{count, front, part};
 ghost use Rattle.matrix.specs.Result.{as_vector};
@@ -13,9 +12,8 @@ ghost use Rattle.filtering.specs.Information.{informed, of_estimate, state as st
 ghost use Rattle.steps.specs.Step.{motion_rows, sensor_rows, estimate_rows};
 ghost use Rattle.information_steps.specs.Step.{information_rows, arrays_of, update_by};
 
-use answer::Status;
-use matrix::VectorResult;
-use sizes::{Size, number};
+use answer::Refusal;
+use sizes::Size;
 
 // ---- what is measured is added, for an H of m rows and n columns and the inverted noise W
 
@@ -51,9 +49,9 @@ pub fn informed_matrix<'a>(
         ≡ pad (informed (count n) (count m) (part m n h.now) (part m m w.now) [] (information_rows n omega.now [])
         ).matrix }
 {
-    let rows = number(n);
+    let rows = usize::from(n);
     if rows == 4 {
-        if number(m) == 2 {
+        if usize::from(m) == 2 {
             return informed_four(omega, h, w);
         }
     }
@@ -113,37 +111,23 @@ pub fn of_estimate<'a>(
     n: Size,
     omega: &mut [[f64; 4]; 4],
     xi: &mut [f64; 4],
-) -> Status
+) -> Result<(), Refusal>
     ensures { (result, (omega.new, xi.new))
-        ≡ handed status_of arrays_of (omega.old, xi.old)
+        ≡ handed (λ t. t) arrays_of (omega.old, xi.old)
         (into (of_estimate (count n) (estimate_rows n x.now p.now))) }
 {
-    let w = inverse::inverse_of(p, n);
-    let status = w.status;
-    match status {
-        Status::Done => {
-            let rows = matrix::rows_of(w);
-            *xi = kernel::product_vector(&rows, x, n, n);
-            *omega = rows;
-            Status::Done
-        }
-        Status::Refused(number) => Status::Refused(number),
-    }
+    let w = inverse::inverse_of(p, n)?;
+    *xi = kernel::product_vector(&w, x, n, n);
+    *omega = w;
+    Ok(())
 }
 
 // The state: omega inverted, times xi. Refused with 3: inversion rejects omega.
-pub fn state<'a>(omega: &'a [[f64; 4]; 4], xi: &'a [f64; 4], n: Size) -> VectorResult
+pub fn state<'a>(omega: &'a [[f64; 4]; 4], xi: &'a [f64; 4], n: Size) -> Result<[f64; 4], Refusal>
     ensures { result ≡ as_vector (state_of (count n) (information_rows n omega.now xi.now)) }
 {
-    let p = inverse::inverse_of(omega, n);
-    let status = p.status;
-    match status {
-        Status::Done => {
-            let rows = matrix::rows_of(p);
-            matrix::vector_result(Status::Done, kernel::product_vector(&rows, xi, n, n))
-        }
-        Status::Refused(number) => matrix::vector_refused(number),
-    }
+    let p = inverse::inverse_of(omega, n)?;
+    Ok(kernel::product_vector(&p, xi, n, n))
 }
 
 // ---- the steps
@@ -159,24 +143,17 @@ pub fn predict<'a>(
     i: Size,
     omega: &mut [[f64; 4]; 4],
     xi: &mut [f64; 4],
-) -> Status
+) -> Result<(), Refusal>
     ensures { (result, (omega.new, xi.new))
-        ≡ handed status_of arrays_of (omega.old, xi.old)
+        ≡ handed (λ t. t) arrays_of (omega.old, xi.old)
         (predict_of (motion_rows n i a.now b.now q.now) (front i u.now)
         (information_rows n omega.old xi.old)) }
 {
-    let p = inverse::inverse_of(omega, n);
-    let status = p.status;
-    match status {
-        Status::Done => {
-            let rows = matrix::rows_of(p);
-            let x = kernel::product_vector(&rows, xi, n, n);
-            let moved = steps::predicted_state(a, b, &x, u, n, i);
-            let spread = steps::propagated(a, &rows, q, n, n);
-            of_estimate(&moved, &spread, n, omega, xi)
-        }
-        Status::Refused(number) => Status::Refused(number),
-    }
+    let p = inverse::inverse_of(omega, n)?;
+    let x = kernel::product_vector(&p, xi, n, n);
+    let moved = steps::predicted_state(a, b, &x, u, n, i);
+    let spread = steps::propagated(a, &p, q, n, n);
+    of_estimate(&moved, &spread, n, omega, xi)
 }
 
 // Updated by the measurement z, where w is the inverted noise: the addition stays whatever is told. The innovation is z less H
@@ -189,20 +166,13 @@ pub fn update_by<'a>(
     m: Size,
     omega: &mut [[f64; 4]; 4],
     xi: &mut [f64; 4],
-) -> VectorResult
+) -> Result<[f64; 4], Refusal>
     ensures { (result, (omega.new, xi.new))
         ≡ handed as_vector arrays_of (omega.old, xi.old)
         (update_by (sensor_rows n m h.now []) (front m z.now) (information_rows n omega.old xi.old)
         (part m m w.now)) }
 {
     inform(h, w, z, n, m, omega, xi);
-    let x = state(omega, xi, n);
-    let status = x.status;
-    match status {
-        Status::Done => {
-            let cells = x.cells;
-            matrix::vector_result(Status::Done, steps::innovation(h, &cells, z, m, n))
-        }
-        Status::Refused(number) => matrix::vector_refused(number),
-    }
+    let x = state(omega, xi, n)?;
+    Ok(steps::innovation(h, &x, z, m, n))
 }

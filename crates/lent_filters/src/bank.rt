@@ -2,21 +2,17 @@
 ghost use Rattle.std.specs.Prelude.{◌≡◌};
 ghost use Rattle.imm.specs.Record.{mix_of, probabilities_of};
 
-use answer::Status;
+use answer::Refusal;
 use imm::ImmEstimator;
 
-pub fn mix_estimates_lent(f: &mut ImmEstimator) -> Status
-    ensures { (result ≡ (mix_of f.old).answer) × (f.new ≡ (mix_of f.old).estimator) }
+pub fn mix_estimates_lent(f: &mut ImmEstimator) -> Result<(), Refusal>
+    ensures { (result ≡ (mix_of f.old).answer) × (f.new ≡ (mix_of f.old).left) }
 {
-    let r = (*f).mix_estimates();
-    *f = r.estimator;
-    r.answer
+    lent::into_place((*f).mix_estimates(), f)
 }
 
-pub fn update_probabilities_lent(f: &mut ImmEstimator) -> Status
-    ensures { (result ≡ (probabilities_of f.old).answer) × (f.new ≡ (probabilities_of f.old).estimator) }
+pub fn update_probabilities_lent(f: &mut ImmEstimator) -> Result<(), Refusal>
+    ensures { (result ≡ (probabilities_of f.old).answer) × (f.new ≡ (probabilities_of f.old).left) }
 {
-    let r = (*f).update_probabilities();
-    *f = r.estimator;
-    r.answer
+    lent::into_place((*f).update_probabilities(), f)
 }

@@ -2,31 +2,24 @@
 ghost use Rattle.std.specs.Prelude.{◌≡◌};
 ghost use Rattle.kalman.specs.Record.{predict_of, update_of, update_one_of};
 
-use answer::Status;
+use answer::Refusal;
 use kalman::KalmanFilter;
-use matrix::{ScalarResult, VectorResult};
 
-pub fn predict_lent(f: &mut KalmanFilter, u: [f64; 4], k: usize) -> Status
-    ensures { (result ≡ (predict_of f.old u k).answer) × (f.new ≡ (predict_of f.old u k).filter) }
+pub fn predict_lent(f: &mut KalmanFilter, u: [f64; 4], k: usize) -> Result<(), Refusal>
+    ensures { (result ≡ (predict_of f.old u k).answer) × (f.new ≡ (predict_of f.old u k).left) }
 {
-    let r = (*f).predict(u, k);
-    *f = r.filter;
-    r.answer
+    lent::into_place((*f).predict(u, k), f)
 }
 
-pub fn update_lent(f: &mut KalmanFilter, z: [f64; 4], k: usize) -> VectorResult
-    ensures { (result ≡ (update_of f.old z k).answer) × (f.new ≡ (update_of f.old z k).filter) }
+pub fn update_lent(f: &mut KalmanFilter, z: [f64; 4], k: usize) -> Result<[f64; 4], Refusal>
+    ensures { (result ≡ (update_of f.old z k).answer) × (f.new ≡ (update_of f.old z k).left) }
 {
-    let r = (*f).update(z, k);
-    *f = r.filter;
-    r.answer
+    lent::into_place((*f).update(z, k), f)
 }
 
 // For one reading, m = 1: the innovation as a number.
-pub fn update_one_lent(f: &mut KalmanFilter, z: f64) -> ScalarResult
-    ensures { (result ≡ (update_one_of f.old z).answer) × (f.new ≡ (update_one_of f.old z).filter) }
+pub fn update_one_lent(f: &mut KalmanFilter, z: f64) -> Result<f64, Refusal>
+    ensures { (result ≡ (update_one_of f.old z).answer) × (f.new ≡ (update_one_of f.old z).left) }
 {
-    let r = (*f).update_one(z);
-    *f = r.filter;
-    r.answer
+    lent::into_place((*f).update_one(z), f)
 }

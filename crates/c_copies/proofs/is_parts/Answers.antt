@@ -1,47 +1,14 @@
 -- `is_parts` meets its contract: the filter, and each part.
-use native.Mathlib.Omega.{arith}
-use mathlib.Core.Path.{◌≡◌, sym, ◌∙◌}
+use mathlib.Core.Path.{◌≡◌}
 use mathlib.Core.Bool.{◌&&◌}
 use lib.Dec.{eqb}
-use Prim.Native.Nat.{◌*◌}
-use Rattle.c_copies.specs.Filter.{is_parts}
-use Rattle.c_copies.proofs.Filters.{Few, whole_of, and_tested, and_failed}
-use Rattle.c_copies.proofs.is_parts.Lts as lts
-use Rattle.c_copies.proofs.is_parts.Tie as tie
-use Rattle.c_copies.proofs.is_parts.Reads as reads
+use Prim.Native.Nat.{◌-◌}
+use Rattle.c_copies.specs.Filter.{is_filter}
+use Rattle.c_copies.proofs.Filters.{parts-tested}
 use Rattle.c_copies.proofs.is_parts.Goals as goal
 
-abbrev Then-is_filter : Type 0
-Then-is_filter = lts.Then1 tie.the-claims reads.Pre reads.Post
-
-few : (c : Then-is_filter) → let a = c.args in Few a.n a.m a.i
-few c = (whole_of _ _ _ _ (sym c.is_filter.ensures ∙ c.if-is_filter.true)).few
-
-pub returns-then-is_filter : goal.returns-then-is_filter
-unfolding is_parts
-returns-then-is_filter c =
+pub returns : goal.returns
+returns c =
     let a = c.args in
-    let all : c.both-then-is_filter-3.result ≡ (eqb a.a (a.n * a.n) && (eqb a.b (a.n * a.i) && eqb a.h (a.m * a.n))) && ((eqb a.q (a.n * a.n) && eqb a.r (a.m * a.m)) && (eqb a.x a.n && eqb a.p (a.n * a.n))) = cc in
-    and_tested _ _ c.is_filter.ensures c.if-is_filter.true all
-
-pub returns-else-is_filter : goal.returns-else-is_filter
-unfolding is_parts
-returns-else-is_filter c = and_failed _ _ c.is_filter.ensures c.if-is_filter.false
-
-pub overflow_mul-n : goal.overflow_mul-n
-overflow_mul-n c = omega (arith, few c)
-
-pub overflow_mul-n-then-is_filter : goal.overflow_mul-n-then-is_filter
-overflow_mul-n-then-is_filter c = omega (arith, few c)
-
-pub overflow_mul-m : goal.overflow_mul-m
-overflow_mul-m c = omega (arith, few c)
-
-pub overflow_mul-n-then-is_filter-2 : goal.overflow_mul-n-then-is_filter-2
-overflow_mul-n-then-is_filter-2 c = omega (arith, few c.before.before)
-
-pub overflow_mul-m-then-is_filter : goal.overflow_mul-m-then-is_filter
-overflow_mul-m-then-is_filter c = omega (arith, few c.before.before)
-
-pub overflow_mul-n-then-is_filter-3 : goal.overflow_mul-n-then-is_filter-3
-overflow_mul-n-then-is_filter-3 c = omega (arith, few c.before.before.before)
+    let z = c.place_parts-at.result in
+    parts-tested a.n a.m a.i a.len c.place_parts-at.ensures a.a a.b a.h a.q a.r a.x a.p cc

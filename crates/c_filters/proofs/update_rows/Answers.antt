@@ -1,105 +1,46 @@
 -- `update_rows` meets its contract: by the test of the slices, and by the answer.
-use native.Mathlib.Omega.{arith}
-use mathlib.Core.Path.{◌≡◌, refl, sym, ap, ◌∙◌}
-use mathlib.Core.Bool.{Bool, true, ◌&&◌}
-use lib.Dec.{eqb}
-use Prim.Native.Nat.{ℕ}
+use mathlib.Core.Path.{refl, sym, ap, ◌∙◌}
+use mathlib.Core.Bool.{Bool}
 use mathlib.Core.List.{List}
-use lib.ListN.{length}
+use Prim.Native.Nat.{ℕ}
 use lib.Ieee.{Float}
-use borrow.Author.Tests.{eqb-true}
-use Rattle.answer.proofs.Choice.{and_left, and_right}
 use Rattle.answer.specs.Outcome.{if_fitting}
+use Rattle.answer.specs.Answer.{Answer}
+use Rattle.answer.specs.Told.{number_of}
+use Rattle.small_inverse.proofs.Exits.{exit}
 use Rattle.filtering.specs.Linear.{update}
-use Rattle.c_copies.specs.Filter.{is_step, is_step_with, sensor_at, estimate_at, outcome_in}
-use Rattle.c_copies.proofs.Filters.{Step, step_of, place_is, place-small}
+use Rattle.c_copies.specs.Filter.{sensor_at, estimate_at, outcome_in}
+use Rattle.c_copies.proofs.Filters.{places_are, with-tested, with-step, with-room}
 use Rattle.c_copies.proofs.Steps.{updates, refuses}
-use Rattle.c_filters.proofs.update_rows.Lts as lts
-use Rattle.c_filters.proofs.update_rows.Tie as tie
-use Rattle.c_filters.proofs.update_rows.Reads as reads
 use Rattle.c_filters.proofs.update_rows.Goals as goal
-
-abbrev After-both : Type 0
-After-both = lts.After-both tie.the-claims reads.Pre reads.Post
-
-abbrev Then-both : Type 0
-Then-both = lts.Then1 tie.the-claims reads.Pre reads.Post
-
-tested : (c : After-both) → let a = c.args in
-    c.both.result ≡ is_step_with a.n a.m a.i (length a.filter.now) a.m (length a.z.now) a.m (length a.innovation.now)
-unfolding is_step_with
-tested c =
-    let a = c.args in
-    c.both.ensures ∙ ap (λ (b : Bool). b && eqb (length a.innovation.now) a.m) c.is_step.ensures
-
-passed : (c : Then-both) → let a = c.args in is_step_with a.n a.m a.i (length a.filter.now) a.m (length a.z.now) a.m (length a.innovation.now) ≡ true
-passed c = sym (tested c.before) ∙ c.if-both.true
-
-test : (c : Then-both) → let a = c.args in Step a.n a.m a.i (length a.filter.now) a.m (length a.z.now)
-unfolding is_step_with
-test c = step_of _ _ _ _ _ _ (and_left _ _ (passed c))
-
-room : (c : Then-both) → let a = c.args in length a.innovation.now ≡ a.m
-unfolding is_step_with
-room c =
-    let a = c.args in
-    eqb-true _ _ (and_right (is_step a.n a.m a.i (length a.filter.now) a.m (length a.z.now)) _ (passed c))
 
 -- by the test of the sizes
 abbrev by : ℕ → ℕ → ℕ → List Float → List Float → List Float → Bool → ℕ × (List Float × List Float)
 by n m i f z y t = outcome_in n m i f y (if_fitting t (update (sensor_at n m i f) z (estimate_at n m i f)))
 
-pub returns-in-Done : goal.returns-in-Done
-returns-in-Done c =
+pub returns-in_ok-y : goal.returns-in_ok-y
+returns-in_ok-y c =
     let g = c.args in
-    let s = test c.before.before.before.before.before.before.before.before.before.before.before.before.before.before.before.before.before.before.before.before.before.before.before.before.before.before in
-    updates g.n g.m g.i g.filter.now s.whole c.size_of-sn.ensures c.size_of-sm.ensures refl (place_is g.n g.m g.i s.whole.sizes c.place_of-from.ensures) g.z.now s.same
-    c.matrix_at.ensures c.matrix_at-then-both.ensures c.vector_at-v.ensures c.vector_at-x.ensures c.matrix_at-p.ensures c.update-answer.ensures g.innovation.now (room c.before.before.before.before.before.before.before.before.before.before.before.before.before.before.before.before.before.before.before.before.before.before.before.before.before.before) c.in-Done.is
-    c.put_pair.ensures c.put_vector.ensures
-    ∙ ap (by g.n g.m g.i g.filter.now g.z.now g.innovation.now) (sym (passed c.before.before.before.before.before.before.before.before.before.before.before.before.before.before.before.before.before.before.before.before.before.before.before.before.before.before))
+    let e = sym (with-tested g.n g.m g.i _ g.m _ g.m _ c.is_step.ensures c.both.ensures) ∙ c.if-both.true in
+    let s = with-step g.n g.m g.i _ g.m _ g.m _ e in
+    let L = places_are g.n g.m g.i s.whole.sizes c.place_parts-at.ensures in
+    updates g.n g.m g.i g.filter.now s.whole c.size_of-sn.ensures c.size_of-sm.ensures refl L g.z.now s.same
+    c.matrix_at-h.ensures c.matrix_at-r.ensures c.vector_at-v.ensures c.vector_at-x.ensures c.matrix_at-p.ensures c.update.ensures
+    g.innovation.now (with-room g.n g.m g.i _ g.m _ g.m _ e) c.in_ok-y.was c.put_pair.ensures c.put_vector.ensures
+    ∙ ap (by g.n g.m g.i g.filter.now g.z.now g.innovation.now) (sym e)
 
-pub returns-in-Refused : goal.returns-in-Refused
-returns-in-Refused c =
+pub returns-in_err-y : goal.returns-in_err-y
+returns-in_err-y c =
     let g = c.args in
-    let s = test c.before.before.before.before.before.before.before.before.before.before.before.before.before.before.before.before in
-    refuses g.n g.m g.i g.filter.now s.whole c.size_of-sn.ensures c.size_of-sm.ensures refl (place_is g.n g.m g.i s.whole.sizes c.place_of-from.ensures) g.z.now s.same
-    c.matrix_at.ensures c.matrix_at-then-both.ensures c.vector_at-v.ensures c.vector_at-x.ensures c.matrix_at-p.ensures c.update-answer.ensures g.innovation.now c.in-Refused.is
-    ∙ ap (by g.n g.m g.i g.filter.now g.z.now g.innovation.now) (sym (passed c.before.before.before.before.before.before.before.before.before.before.before.before.before.before.before.before))
+    let e = sym (with-tested g.n g.m g.i _ g.m _ g.m _ c.is_step.ensures c.both.ensures) ∙ c.if-both.true in
+    let s = with-step g.n g.m g.i _ g.m _ g.m _ e in
+    let L = places_are g.n g.m g.i s.whole.sizes c.place_parts-at.ensures in
+    (λ t. (number_of (exit c.from_residual.ensures.1 t), (g.filter.now, g.innovation.now)))
+    ∙ refuses g.n g.m g.i g.filter.now s.whole c.size_of-sn.ensures c.size_of-sm.ensures refl L g.z.now s.same
+    c.matrix_at-h.ensures c.matrix_at-r.ensures c.vector_at-v.ensures c.vector_at-x.ensures c.matrix_at-p.ensures c.update.ensures g.innovation.now c.in_err-y.was
+    ∙ ap (by g.n g.m g.i g.filter.now g.z.now g.innovation.now) (sym e)
 
 pub returns-else-both : goal.returns-else-both
 returns-else-both c =
     let g = c.args in
-    ap (by g.n g.m g.i g.filter.now g.z.now g.innovation.now) (sym (sym (tested c.before.before) ∙ c.if-both.false))
-
-pub overflow_add-from : goal.overflow_add-from
-overflow_add-from c = let w = (test c.before.before.before.before.before.before).whole in omega (arith, w.few, place_is _ _ _ w.sizes c.place_of-from.ensures, place-small _ _ _ w.sizes)
-
-pub overflow_mul-n : goal.overflow_mul-n
-overflow_mul-n c = omega (arith, (test c.before.before.before.before.before.before.before).whole.few)
-
-pub overflow_mul-n-then-both : goal.overflow_mul-n-then-both
-overflow_mul-n-then-both c = omega (arith, (test c.before.before.before.before.before.before.before).whole.few)
-
-pub overflow_add-n : goal.overflow_add-n
-overflow_add-n c = omega (arith, (test c.before.before.before.before.before.before.before).whole.few)
-
-pub overflow_mul-n-then-both-2 : goal.overflow_mul-n-then-both-2
-overflow_mul-n-then-both-2 c = omega (arith, (test c.before.before.before.before.before.before.before.before.before).whole.few)
-
-pub overflow_mul-n-then-both-3 : goal.overflow_mul-n-then-both-3
-overflow_mul-n-then-both-3 c = omega (arith, (test c.before.before.before.before.before.before.before.before.before).whole.few)
-
-pub overflow_add-n-then-both : goal.overflow_add-n-then-both
-overflow_add-n-then-both c = omega (arith, (test c.before.before.before.before.before.before.before.before.before).whole.few)
-
-pub overflow_mul-m : goal.overflow_mul-m
-overflow_mul-m c = omega (arith, (test c.before.before.before.before.before.before.before.before.before).whole.few)
-
-pub overflow_add-n-then-both-2 : goal.overflow_add-n-then-both-2
-overflow_add-n-then-both-2 c = omega (arith, (test c.before.before.before.before.before.before.before.before.before).whole.few)
-
-pub overflow_mul-n-then-both-4 : goal.overflow_mul-n-then-both-4
-overflow_mul-n-then-both-4 c = omega (arith, (test c.before.before.before.before.before.before.before.before.before).whole.few)
-
-pub overflow_add-n-then-both-3 : goal.overflow_add-n-then-both-3
-overflow_add-n-then-both-3 c = omega (arith, (test c.before.before.before.before.before.before.before.before.before).whole.few)
+    ap (by g.n g.m g.i g.filter.now g.z.now g.innovation.now) (sym (sym (with-tested g.n g.m g.i _ g.m _ g.m _ c.is_step.ensures c.both.ensures) ∙ c.if-both.false))

@@ -1,13 +1,14 @@
 -- `predict` meets its contract: by what the inversion of omega answers, and then as of an estimate.
+use Rattle.small_inverse.proofs.Exits.{exit}
 use Rattle.information_road.proofs.Ways.{predicted, not_predicted}
 use Rattle.information_road.proofs.predict.Goals as goal
 
-pub returns-in-Done : goal.returns-in-Done
-returns-in-Done c =
+pub returns-in_err-before : goal.returns-in_err-before
+returns-in_err-before c =
     let a = c.args in
-    predicted a.a a.b0 a.b1 a.q a.u a.o c.of_estimate-before.result.pair c.of_estimate-before.ensures c.in-Done.is c.predict.ensures c.of_estimate.ensures
+    not_predicted a.o c.of_estimate.ensures a.motion a.u c.in_err-before.was (exit c.from_residual.ensures.1)
 
-pub returns-in-Refused : goal.returns-in-Refused
-returns-in-Refused c =
+pub returns : goal.returns
+returns c =
     let a = c.args in
-    not_predicted a.a a.b0 a.b1 a.q a.u a.o c.of_estimate-before.result.pair c.of_estimate-before.ensures c.in-Refused.is
+    predicted a.o c.of_estimate.ensures a.motion a.u _ c.in_ok-before.was c.predict.ensures c.of_estimate-2.ensures

@@ -2,12 +2,12 @@
 use Rattle.information_road.proofs.Ways.{told-after, refused-after}
 use Rattle.information_road.proofs.update_by.Goals as goal
 
-pub returns-in-Done : goal.returns-in-Done
-returns-in-Done c =
+pub returns-in-Ok : goal.returns-in-Ok
+returns-in-Ok c =
     let a = c.args in
-    told-after a.h0 a.h1 a.w a.z a.o c.inform-added.result c.of_estimate-after.result.pair c.inform-added.ensures c.of_estimate-after.ensures c.in-Done.is
+    told-after a.sensor a.w a.z a.o c.inform-added.result c.inform-added.ensures c.of_estimate.ensures c.in-Ok.is
 
-pub returns-in-Refused : goal.returns-in-Refused
-returns-in-Refused c =
+pub returns-in-Err : goal.returns-in-Err
+returns-in-Err c =
     let a = c.args in
-    refused-after a.h0 a.h1 a.w a.z a.o c.inform-added.result c.of_estimate-after.result.pair c.inform-added.ensures c.of_estimate-after.ensures c.in-Refused.is
+    refused-after a.sensor a.w a.z a.o c.inform-added.result c.inform-added.ensures c.of_estimate.ensures c.in-Err.is

@@ -1,5 +1,5 @@
 -- `informed_matrix` meets its contract: four states and two measurements are written out; else a loop over the rows, each made by itself.
-use Prim.Native.Nat.{ℕ, ◌-◌, ◌<◌}
+use Prim.Native.Nat.{ℕ, ◌<◌}
 use native.Mathlib.Omega.{arith}
 use mathlib.Core.Path.{◌≡◌, sym, subst, ◌∙◌}
 use mathlib.Core.List.{[]}
@@ -15,7 +15,7 @@ use Rattle.information_steps.proofs.informed_matrix.Goals as goal
 
 pub loop-i-init : goal.loop-i-init
 loop-i-init c =
-    let e = c.number-rows.ensures in
+    let e = c.from-rows.ensures in
     ((e, omega (arith, e, bounds c.args.n)), rows_none _ _)
 
 pub loop-i-preserved : goal.loop-i-preserved
@@ -27,11 +27,11 @@ loop-i-preserved c =
     (v.0, rows_more v.1 (bounds x.n).most h made)
 
 -- the sizes that are written out
-pub returns-then-number-eq2 : goal.returns-then-number-eq2
-returns-then-number-eq2 c =
+pub returns-then-from-eq2 : goal.returns-then-from-eq2
+returns-then-from-eq2 c =
     let x = c.args in
-    let r : 4 ≡ count x.n = sym c.if-rows-eq4.true ∙ c.number-rows.ensures in
-    let s : 2 ≡ count x.m = sym c.if-number-eq2.true ∙ c.number.ensures in
+    let r : 4 ≡ count x.n = sym c.if-rows-eq4.true ∙ c.from-rows.ensures in
+    let s : 2 ≡ count x.m = sym c.if-from-eq2.true ∙ c.from.ensures in
     c.informed_four.ensures ∙ λ k. pad (informed (r k) (s k) (used (s k) (r k) x.h.now) (used (s k) (s k) x.w.now) [] (record { matrix = used (r k) (r k) x.omega.now; vector = cut (r k) [] })).matrix
 
 pub returns : goal.returns

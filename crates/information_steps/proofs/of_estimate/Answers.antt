@@ -1,13 +1,14 @@
 -- `of_estimate` meets its contract: by what the inversion answers.
+use Rattle.small_inverse.proofs.Exits.{exit}
 use Rattle.information_steps.proofs.Ways.{made, not_made}
 use Rattle.information_steps.proofs.of_estimate.Goals as goal
 
-pub returns-in-Done : goal.returns-in-Done
-returns-in-Done c =
+pub returns-in_err-w : goal.returns-in_err-w
+returns-in_err-w c =
     let a = c.args in
-    made a.n a.x.now a.p.now c.inverse_of-w.ensures a.omega.now a.xi.now c.in-Done.is c.rows_of-rows.ensures c.product_vector.ensures
+    not_made a.n a.x.now a.p.now c.inverse_of.ensures a.omega.now a.xi.now c.in_err-w.was (exit c.from_residual.ensures.1)
 
-pub returns-in-Refused : goal.returns-in-Refused
-returns-in-Refused c =
+pub returns : goal.returns
+returns c =
     let a = c.args in
-    not_made a.n a.x.now a.p.now c.inverse_of-w.ensures a.omega.now a.xi.now c.in-Refused.is
+    made a.n a.x.now a.p.now c.inverse_of.ensures a.omega.now a.xi.now c.in_ok-w.was c.product_vector.ensures

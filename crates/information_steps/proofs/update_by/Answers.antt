@@ -1,13 +1,14 @@
 -- `update_by` meets its contract: by what the state after the addition is told as.
+use Rattle.small_inverse.proofs.Exits.{exit}
 use Rattle.information_steps.proofs.Ways.{shape-informed, length-informed, told-after, refused-after}
 use Rattle.information_steps.proofs.update_by.Goals as goal
 
-pub returns-in-Done : goal.returns-in-Done
-returns-in-Done c =
+pub returns-in_err-x : goal.returns-in_err-x
+returns-in_err-x c =
     let a = c.args in
-    told-after a.n a.m a.h.now a.z.now _ (shape-informed _ _ _ _ _ _) (length-informed _ _ _ _ _ _) c.inform.ensures c.state-x.ensures c.in-Done.is c.innovation.ensures c.vector_result.ensures
+    refused-after a.n a.m a.h.now a.z.now _ (shape-informed _ _ _ _ _ _) (length-informed _ _ _ _ _ _) c.inform.ensures c.state.ensures c.in_err-x.was (exit c.from_residual.ensures.1)
 
-pub returns-in-Refused : goal.returns-in-Refused
-returns-in-Refused c =
+pub returns : goal.returns
+returns c =
     let a = c.args in
-    refused-after a.n a.m a.h.now a.z.now _ (shape-informed _ _ _ _ _ _) (length-informed _ _ _ _ _ _) c.inform.ensures c.state-x.ensures c.in-Refused.is c.vector_refused.ensures
+    told-after a.n a.m a.h.now a.z.now _ (shape-informed _ _ _ _ _ _) (length-informed _ _ _ _ _ _) c.inform.ensures c.state.ensures c.in_ok-x.was c.innovation.ensures

@@ -1,5 +1,5 @@
 -- `covariance` meets its contract.
-use mathlib.Core.Path.{sym, ◌∙◌}
+use mathlib.Core.Path.{refl, sym, ◌∙◌}
 use Rattle.algebra.specs.Array.{used_flat}
 use Rattle.algebra.specs.Inverse.{inv}
 use Rattle.sizes.specs.Size.{count}
@@ -26,4 +26,4 @@ returns-then-is_well_sized c =
 pub returns-else-is_well_sized : goal.returns-else-is_well_sized
 returns-else-is_well_sized c =
     let f = c.args.self in
-    if_refused as_matrix (covariance f.n (held f)) (sym c.is_well_sized.ensures ∙ c.if-is_well_sized.false) c.matrix_refused.ensures
+    if_refused as_matrix (covariance f.n (held f)) (sym c.is_well_sized.ensures ∙ c.if-is_well_sized.false) refl

@@ -1,12 +1,5 @@
--- `fuse_sensor` meets its contract: the record around the numbers of the step.
-use Rattle.answer.specs.Told.{status_of}
-use Rattle.steps.proofs.Records.{around}
-use Rattle.information_filter.specs.Record.{flats_of, keeping, fusing}
+-- `fuse_sensor` meets its contract: the step on a lent copy.
 use Rattle.information_filter.proofs.InformationFilter.fuse_sensor.Goals as goal
 
 pub returns : goal.returns
-returns c =
-    let a = c.args in
-    let f = a.self in
-    let e = around status_of flats_of (keeping f) (f.omega, f.xi) (fusing f a.s) c.fuse_in-answer.ensures in
-    λ i. record { answer = (e i).0; filter = (e i).1 }
+returns c = λ k. record { answer = (c.fuse_in-answer.ensures k).0; left = (c.fuse_in-answer.ensures k).1 }

@@ -1,7 +1,8 @@
 -- `information_vector` meets its contract.
-use mathlib.Core.Path.{sym, ◌∙◌}
+use mathlib.Core.Path.{refl, sym, ◌∙◌}
 use Rattle.sizes.proofs.Sizes.{is_count}
-use Rattle.matrix.proofs.Results.{vector-answered, vector-refused}
+use Rattle.matrix.specs.Result.{as_vector}
+use Rattle.matrix.proofs.Results.{vector-answered, as_refused}
 use Rattle.steps.proofs.Sizes.{well_sized_lem}
 use Rattle.steps.proofs.Flats.{leading_of}
 use Rattle.information_filter.proofs.InformationFilter.information_vector.Goals as goal
@@ -9,7 +10,7 @@ use Rattle.information_filter.proofs.InformationFilter.information_vector.Goals 
 pub returns-then-is_well_sized : goal.returns-then-is_well_sized
 returns-then-is_well_sized c =
     let e = sym c.is_well_sized.ensures ∙ c.if-is_well_sized.true in
-    c.vector_result.ensures ∙ vector-answered _ e (leading_of _ (is_count (well_sized_lem _ _ _ e).states c.size_of.ensures) c.leading.ensures)
+    vector-answered _ e (leading_of _ (is_count (well_sized_lem _ _ _ e).states c.size_of.ensures) c.leading.ensures)
 
 pub returns-else-is_well_sized : goal.returns-else-is_well_sized
-returns-else-is_well_sized c = c.vector_refused.ensures ∙ vector-refused _ (sym c.is_well_sized.ensures ∙ c.if-is_well_sized.false)
+returns-else-is_well_sized c = as_refused as_vector _ (sym c.is_well_sized.ensures ∙ c.if-is_well_sized.false) refl

@@ -1,5 +1,5 @@
 -- `state` meets its contract.
-use mathlib.Core.Path.{sym, ◌∙◌}
+use mathlib.Core.Path.{refl, sym, ◌∙◌}
 use Rattle.sizes.specs.Size.{count}
 use Rattle.matrix.specs.Result.{as_vector}
 use Rattle.sizes.proofs.Sizes.{is_count}
@@ -22,4 +22,4 @@ returns-then-is_well_sized c =
 pub returns-else-is_well_sized : goal.returns-else-is_well_sized
 returns-else-is_well_sized c =
     let f = c.args.self in
-    if_refused as_vector (state f.n (held f)) (sym c.is_well_sized.ensures ∙ c.if-is_well_sized.false) c.vector_refused.ensures
+    if_refused as_vector (state f.n (held f)) (sym c.is_well_sized.ensures ∙ c.if-is_well_sized.false) refl
