@@ -1,6 +1,7 @@
 // src/estimator/imm.rs on a slice that the caller lends: a bank of k models of n states and m measurements is, for each model, a,
 // x, p, q and its likelihood, then the transition, c, r and the probabilities mu, by rows, one after another. Numbers are read and
-// written where they stand, each once. Refused with 1: a size, or a slice of another length. How a bank is made: crates/c_imm.
+// written where they stand, each once. Refused with 1: a size, or a slice of another length. How a bank is made: crates/c_imm. What is
+// told is a number, 0 or that refusal's: the C interface.
 #![tactic(auto)]
 
 ghost use Rattle.std.specs.Prelude.{◌≡◌, true, ◌+◌, ◌*◌, ◌≤◌, ◌<◌, length, replicate};
@@ -12,9 +13,10 @@ ghost use Rattle.algebra.specs.Array.{pad_row};
 ghost use Rattle.sizes.specs.Size.{count, front};
 ghost use Rattle.layout.specs.Layout.{vector_at, joined, placed, model_length};
 ghost use Rattle.steps.specs.Step.{well_sized};
-ghost use Rattle.c_bank.specs.Bank.{model_place, probabilities_place, is_bank, series, mixed_row_in, mixed_rows_in, mix_in, probabilities_in, fused_in, probability_in};
+ghost use Rattle.c_bank.specs.Bank.{model_place, probabilities_place, is_bank, series, mixed_row_in, mixed_rows_in};
+ghost use Rattle.c_bank.specs.Bank.{mix_in, probabilities_in, fused_in, probability_in};
 
-use sizes::{Size, number, size_of};
+use sizes::{Size, size_of};
 
 mod spread;
 
@@ -65,12 +67,12 @@ fn four_at(b: &[f64], k: usize) -> [f64; 4]
     [b[k], b[k + 1], b[k + 2], b[k + 3]]
 }
 
-// Four numbers for each of m models, from number k on.
+// Four numbers for each of m models, from number k on. Written out: a compiler makes compares of `<`, and stores no row in between.
 fn rows_at(b: &[f64], k: usize, step: usize, m: Size) -> [[f64; 4]; 4]
     requires { ((k ≤ 212) × (step ≤ 53)) × (k + count m * step + 4 ≤ length b.now + step) }
     ensures { result ≡ pad_to 4 (replicate 4 +0) (table (count m) (λ i. vector_at 4 b.now (k + i * step))) }
 {
-    let models = number(m);
+    let models = usize::from(m);
     let none = [0.0; 4];
     let r0 = four_at(b, k);
     if models < 2 {
@@ -88,12 +90,12 @@ fn rows_at(b: &[f64], k: usize, step: usize, m: Size) -> [[f64; 4]; 4]
     [r0, r1, r2, r3]
 }
 
-// One number for each.
+// One number for each, written out likewise.
 fn numbers_at(b: &[f64], k: usize, step: usize, m: Size) -> [f64; 4]
     requires { ((k ≤ 260) × (step ≤ 53)) × (k + count m * step < length b.now + step) }
     ensures { result ≡ pad_row (table (count m) (λ i. at b.now (k + i * step))) }
 {
-    let models = number(m);
+    let models = usize::from(m);
     let v0 = b[k];
     if models < 2 {
         return [v0, 0.0, 0.0, 0.0];
@@ -112,31 +114,12 @@ fn numbers_at(b: &[f64], k: usize, step: usize, m: Size) -> [f64; 4]
 
 // ---- the steps
 
-// The first n numbers of v, from number k on. Those of one size stand together, so that they are written at once.
+// The first n numbers of v, from number k on.
 fn put_row(b: &mut [f64], k: usize, v: [f64; 4], n: Size)
     requires { (k ≤ 500) × (k + count n ≤ length b.old) }
     ensures { b.new ≡ placed k (front n v) b.old }
 {
-    let numbers = number(n);
-    if numbers < 2 {
-        b[k] = v[0];
-        return;
-    }
-    if numbers < 3 {
-        b[k] = v[0];
-        b[k + 1] = v[1];
-        return;
-    }
-    if numbers < 4 {
-        b[k] = v[0];
-        b[k + 1] = v[1];
-        b[k + 2] = v[2];
-        return;
-    }
-    b[k + 3] = v[3];
-    b[k + 2] = v[2];
-    b[k + 1] = v[1];
-    b[k] = v[0];
+    layout::put_vector(b, k, v, n);
 }
 
 // Row j of m for each model j of k, from number q on.
@@ -144,13 +127,15 @@ fn put_rows(bank: &mut [f64], q: usize, step: usize, m: &[[f64; 4]; 4], n: Size,
     requires { ((q ≤ 212) × (step ≤ 53)) × (q + count k * step + 4 ≤ length bank.old + step) }
     ensures { bank.new ≡ series (count k) q step (λ j. front n (row m.now j)) bank.old }
 {
-    let models = number(k);
+    let models = usize::from(k);
+    // The index is a row of m and a place in the bank.
     for j in 0..models {
         put_row(bank, q + j * step, m[j], n);
     }
 }
 
-// Row r of both covariances of two models, which stand from number q on, mixed.
+// Row r of both covariances of two models, which stand from number q on, mixed. Two models are the usual bank, and without a loop
+// their numbers stay where a processor has them.
 fn mix_pair<'a>(
     bank: &mut [f64],
     x: &'a [[f64; 4]; 4],
@@ -191,12 +176,13 @@ fn mix_row<'a>(
         ≡ series (count k) q step
         (mixed_row_in (count n) (count k) step x.now m.now w.now bank.old q r) bank.old }
 {
-    let models = number(k);
+    let models = usize::from(k);
     if models == 2 {
         mix_pair(bank, x, m, w, r, q, step, n);
         return;
     }
     let p = rows_at(bank, q, step, k);
+    // The index is a model of the weights and a place in the bank.
     for j in 0..models {
         let row = spread::mixed_row(&p, x, m, w, j, r, k);
         put_row(bank, q + j * step, row, n);
@@ -217,7 +203,7 @@ fn mix_covariances<'a>(
         ≡ series (count k) (count n * count n + count n) (model_length (count n))
         (λ j. joined (mixed_rows_in (count n) (count k) x.now m.now w.now bank.old j)) bank.old }
 {
-    let states = number(n);
+    let states = usize::from(n);
     let step = model_length(states);
     for r in 0..states {
         mix_row(

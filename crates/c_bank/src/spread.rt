@@ -7,7 +7,7 @@ ghost use Rattle.sizes.specs.Size.{count};
 ghost use Rattle.imm_steps.specs.Bank.{spread_term};
 
 use imm_steps::plus_spread;
-use sizes::{Size, number};
+use sizes::Size;
 
 // Row r of the covariance of model j, mixed from the rows p of all models.
 pub(crate) fn mixed_row<'a>(
@@ -23,13 +23,15 @@ pub(crate) fn mixed_row<'a>(
     ensures { result ≡ table 4 (λ c. sum_of (count k) (λ i. spread_term (cell p.now i c)
         (cell x.now i r) (cell m.now j r) (cell x.now i c) (cell m.now j c) (cell w.now i j))) }
 {
-    let models = number(k);
-    let mut s = [0.0; 4];
-    for i in 0..models {
-        let next = plus_spread(s, p[i], x[i], m[j], x[i][r] - m[j][r], w[i][j]);
-        s = next;
-    }
-    s
+    let u = m[j];
+    let y = [
+        x[0][r] - u[r],
+        x[1][r] - u[r],
+        x[2][r] - u[r],
+        x[3][r] - u[r],
+    ];
+    let v = [w[0][j], w[1][j], w[2][j], w[3][j]];
+    imm_steps::mixed_row(p, x, u, y, v, k)
 }
 
 // Row r of the covariance of model j of two, mixed from their rows a and b: m is its mixed state.

@@ -1,5 +1,6 @@
 // src/estimator/imm.rs on a slice that the caller lends: a bank made of its parts, and mixing, with two models of one road written out. What a
 // bank is, mixing for any sizes and what is asked of a bank: crates/c_bank. Refused with 1: a size, or a slice of another length.
+// What is told is a number: the C interface.
 #![tactic(auto)]
 
 ghost use Rattle.std.specs.Prelude.{◌≡◌, ◌++◌, ◌+◌, ◌≤◌, length};
@@ -10,6 +11,7 @@ ghost use Rattle.c_bank.specs.Bank.{is_parts, is_roads, roads_in, with_bank, mix
 
 use c_bank::is_bank;
 pub use c_bank::{imm_fused_estimate, imm_model_probability, imm_update_probabilities};
+use imm_road::Roads;
 use road::{Pair, Two};
 use sizes::{both, size_of};
 
@@ -85,7 +87,13 @@ fn mix_roads(m: usize, bank: &mut [f64])
 {
     let from = bank.len() - 2;
     let r = roads_at(bank);
-    let x = imm_road::mix(r.transition, bank[from], bank[from + 1], r.first, r.second);
+    let roads = Roads {
+        first: r.first,
+        second: r.second,
+        mu0: bank[from],
+        mu1: bank[from + 1],
+    };
+    let x = roads.mix(r.transition);
     let first = x.first;
     let second = x.second;
     let mu = [x.mu0, x.mu1];

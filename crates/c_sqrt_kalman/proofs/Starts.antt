@@ -6,9 +6,12 @@ use Prim.Native.Nat.{ℕ, ◌+◌, ◌*◌, ◌≤◌}
 use native.Mathlib.Omega.{arith}
 use lib.ListN.{length}
 use lib.Ieee.{Float}
-use Rattle.answer.specs.Answer.{Answer, refused, answered, mapped, if_sized}
+use Rattle.std.specs.Prelude.{Ok, Err}
+use Rattle.answer.specs.declared.Refusal.{Refusal}
+use Rattle.answer.specs.Answer.{Answer, mapped, if_sized}
 use Rattle.answer.specs.Outcome.{into}
-use Rattle.answer.specs.Told.{given}
+use Rattle.answer.specs.Told.{number, given}
+use Rattle.answer.proofs.Answers.{differ, same_answer}
 use Rattle.algebra.specs.Matrix.{Vector, Matrix, transpose}
 use Rattle.algebra.specs.Array.{cut, used, pad_row, pad}
 use Rattle.algebra.specs.Cholesky.{cholesky}
@@ -17,6 +20,7 @@ use Rattle.algebra.proofs.Arrays.{used-pad}
 use Rattle.algebra.proofs.Factors.{shape-cholesky}
 use Rattle.sizes.specs.declared.Size.{Size}
 use Rattle.sizes.specs.Size.{count}
+use Rattle.matrix.specs.Result.{as_matrix}
 use Rattle.filtering.specs.Filter.{estimate}
 use Rattle.filtering.specs.SquareRoot.{factored, of_estimate, covariance}
 use Rattle.layout.specs.Layout.{vector_at, matrix_at, vector_in, matrix_in, joined, placed, put_at, root_parts}
@@ -28,12 +32,17 @@ use Rattle.sqrt_steps.specs.Step.{factored_rows}
 use Rattle.c_sqrt_kalman.specs.Root.{state_place, factored_at, stepped_in, numbers_of}
 use Rattle.c_sqrt_kalman.proofs.Filters.{Whole, Given, with-last, put_next, put_all}
 
+-- the factor in the rows l, where Cholesky's result w has them
+pub found : {w : Answer Rows} {l : Rows} (o : Answer Matrix) → w ≡ as_matrix o → w ≡ Ok l → (L : Matrix) × (o ≡ Ok L) × (l ≡ pad L)
+found (Ok L) e q = (L, refl, same_answer (sym q ∙ e))
+found (Err j) e q = absurd (differ (sym e ∙ q))
+
 -- p0 is the slice of the covariance, p the rows that were read from it, and N the size as the code has it
 module _ (n : ℕ) (x0 p0 : List Float) (lp : length p0 ≡ n * n) (N : Size) (is_n : count N ≡ n) {p : Rows} (ep : p ≡ pad (matrix_in (count N) (count N) p0 0)) where
   read : {a : Answer Matrix} → cholesky (count N) (used (count N) (count N) p) ≡ a → cholesky n (matrix_at n n p0 0) ≡ a
   read q = (λ t. cholesky (sym is_n t) (sym (matrix-used 0 p0 is_n is_n (omega (arith, lp)) ep) t)) ∙ q
 
-  shape : {L : Matrix} → cholesky (count N) (used (count N) (count N) p) ≡ answered L → Shape n n L
+  shape : {L : Matrix} → cholesky (count N) (used (count N) (count N) p) ≡ Ok L → Shape n n L
   shape {L} q = shape-cholesky n (matrix_at n n p0 0) L (read q)
 
   -- ---- `reset`: f is the slice, and b the test of the sizes
@@ -44,7 +53,7 @@ module _ (n : ℕ) (x0 p0 : List Float) (lp : length p0 ≡ n * n) (N : Size) (i
     abbrev whole : Bool → ℕ × List Float
     whole c = stepped_in n m i f (into (if_sized c (of_estimate n (estimate x0 (matrix_at n n p0 0)))))
 
-    pub reset_done : {L : Matrix} {k : ℕ} {x g : List Float} {l : Rows} → cholesky (count N) (used (count N) (count N) p) ≡ answered L → length x0 ≡ n → k ≡ state_place n m i → k + (n + n * n) ≤ length f
+    pub reset_done : {L : Matrix} {k : ℕ} {x g : List Float} {l : Rows} → cholesky (count N) (used (count N) (count N) p) ≡ Ok L → length x0 ≡ n → k ≡ state_place n m i → k + (n + n * n) ≤ length f
         → x ≡ pad_row (vector_in (count N) x0 0) → l ≡ pad L → g ≡ put_at k (cut (count N) x ++ joined (used (count N) (count N) l)) f → (0, g) ≡ whole b
     unfolding of_estimate
     reset_done {L} {k} {x} {g} {l} q lx ek room ex el eg =
@@ -55,7 +64,7 @@ module _ (n : ℕ) (x0 p0 : List Float) (lp : length p0 ≡ n * n) (N : Size) (i
         ∙ ap (λ (j : ℕ). placed j (x0 ++ joined L) f) ek in
         (λ t. (0, isG t)) ∙ sym (ap of (read q)) ∙ λ t. whole (sym h t)
 
-    pub reset_refused : {j : ℕ} → cholesky (count N) (used (count N) (count N) p) ≡ refused j → (j, f) ≡ whole b
+    pub reset_refused : {j : Refusal} → cholesky (count N) (used (count N) (count N) p) ≡ Err j → (number j, f) ≡ whole b
     unfolding of_estimate
     reset_refused q = sym (ap of (read q)) ∙ λ t. whole (sym h t)
 
@@ -67,7 +76,7 @@ module _ (n : ℕ) (x0 p0 : List Float) (lp : length p0 ≡ n * n) (N : Size) (i
     abbrev all : Bool → ℕ × List Float
     all d = given f (if_sized d (mapped (λ z. numbers_of a b h q r z.state (joined z.factor)) (of_estimate n (estimate x0 (matrix_at n n p0 0)))))
 
-    pub new-done : {L : Matrix} {to : ℕ} {f₁ f₂ : List Float} {l : Rows} → cholesky (count N) (used (count N) (count N) p) ≡ answered L → to ≡ state_place n m i + n → l ≡ pad L
+    pub new-done : {L : Matrix} {to : ℕ} {f₁ f₂ : List Float} {l : Rows} → cholesky (count N) (used (count N) (count N) p) ≡ Ok L → to ≡ state_place n m i + n → l ≡ pad L
         → f₁ ≡ placed 0 (joined (a ∷ b ∷ h ∷ q ∷ r ∷ x0 ∷ [])) f → length f₁ ≡ length f → f₂ ≡ put_at to (joined (used (count N) (count N) l)) f₁ → (0, f₂) ≡ all c
     unfolding of_estimate
     new-done {L} {to} {f₁} {f₂} {l} o et el e₁ l₁ e₂ =
@@ -77,7 +86,7 @@ module _ (n : ℕ) (x0 p0 : List Float) (lp : length p0 ≡ n * n) (N : Size) (i
         let is = put_next G f 6 (omega arith) (omega (arith, et)) (omega (arith, et, long, l₁, g.whole.long)) e₁ (e₂ ∙ ap (λ (A : Matrix). put_at to (joined A) f₁) isL) in
         (λ t. (0, put_all G f refl is t)) ∙ sym (ap by (read o)) ∙ λ t. all (sym e t)
 
-    pub new-refused : {j : ℕ} → cholesky (count N) (used (count N) (count N) p) ≡ refused j → (j, f) ≡ all c
+    pub new-refused : {j : Refusal} → cholesky (count N) (used (count N) (count N) p) ≡ Err j → (number j, f) ≡ all c
     unfolding of_estimate
     new-refused o = sym (ap by (read o)) ∙ λ t. all (sym e t)
 

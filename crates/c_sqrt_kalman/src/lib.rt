@@ -1,6 +1,6 @@
 // src/estimator/sqrt_kalman.rs on a slice that the caller lends: a filter of state n, measurement m and input i is a, b, h, q,
 // r_diag, x and the factor s by rows, one after another. Refused with 1: a size, or a slice of another length. The steps:
-// crates/c_sqrt_steps.
+// crates/c_sqrt_steps. What is told is a number, 0 or a refusal's: the C interface.
 #![tactic(auto)]
 
 ghost use Rattle.std.specs.Prelude.{◌≡◌, true, [], ◌∷◌, ◌≤◌, length};
@@ -9,7 +9,6 @@ ghost use Rattle.steps.specs.Step.{well_sized};
 ghost use Rattle.layout.specs.Layout.{joined, placed};
 ghost use Rattle.c_sqrt_kalman.specs.Root.{state_place, is_filter, is_step, is_parts, new_in, from_cholesky_in, reset_in, state_in, covariance_in, factor_in};
 
-use answer::Status;
 use sizes::{both, size_of};
 
 // ---- sizes and places
@@ -84,15 +83,12 @@ pub fn sqrt_kalman_reset(
             let size = size_of(n);
             let x = layout::vector_at(x0, 0, size);
             let p = layout::matrix_at(p0, 0, size, size);
-            let f = cholesky::factor_of(&p, size);
-            let status = f.status;
-            match status {
-                Status::Done => {
-                    let l = matrix::rows_of(f);
+            match cholesky::factor_of(&p, size) {
+                Ok(l) => {
                     layout::put_pair(filter, from, x, &l, size);
                     return 0;
                 }
-                Status::Refused(number) => return number,
+                Err(refusal) => return u8::from(refusal),
             }
         }
     }
@@ -207,17 +203,14 @@ pub fn sqrt_kalman_new(
     ) {
         let size = size_of(n);
         let p = layout::matrix_at(p0, 0, size, size);
-        let f = cholesky::factor_of(&p, size);
-        let status = f.status;
-        match status {
-            Status::Done => {
+        match cholesky::factor_of(&p, size) {
+            Ok(l) => {
                 let to_s = state_place(n, m, i) + n;
-                let l = matrix::rows_of(f);
                 put_model(n, m, i, a, b, h, q, r_diag, x0, p0, filter);
                 layout::put_matrix(filter, to_s, &l, size, size);
                 0
             }
-            Status::Refused(number) => number,
+            Err(refusal) => u8::from(refusal),
         }
     } else {
         1

@@ -4,7 +4,9 @@ use mathlib.Core.List.{[], ◌∷◌, ◌++◌}
 use Prim.Native.Nat.{ℕ, zero, suc, ◌+◌}
 use native.Mathlib.Numerals.{add-one}
 use lib.ListN.{length, length-append}
-use Rattle.answer.specs.Answer.{Answer, refused, answered, mapped}
+use Rattle.std.specs.Prelude.{Ok, Err}
+use Rattle.answer.specs.declared.Refusal.{Refusal}
+use Rattle.answer.specs.Answer.{Answer, mapped}
 use Rattle.answer.specs.Outcome.{Outcome, Left, unchanged, this, final, done, later, onward, ◌else_leave◌then◌}
 use Rattle.algebra.specs.Matrix.{Vector, Matrix, at, row}
 use Rattle.algebra.specs.Cholesky.{cholesky}
@@ -22,10 +24,10 @@ pub data Kept (n : ℕ) : Left Factored → Type 0 where
 
 -- what is told: a refusal, or k numbers
 pub data Tells (k : ℕ) : Answer Vector → Type 0 where
-  no : (j : ℕ) → Tells k (refused j)
-  yes : (y : Vector) → length y ≡ k → Tells k (answered y)
+  no : (j : Refusal) → Tells k (Err j)
+  yes : (y : Vector) → length y ≡ k → Tells k (Ok y)
 
-pub told-length : {k : ℕ} {y : Vector} → Tells k (answered y) → length y ≡ k
+pub told-length : {k : ℕ} {y : Vector} → Tells k (Ok y) → length y ≡ k
 told-length (yes y e) = e
 
 kept-later : {n : ℕ} {a b : Left Factored} → Kept n a → Kept n b → Kept n (later a b)
@@ -64,8 +66,8 @@ module _ (Y : Sensor Vector) (z : Vector) (f : Factored) (F : Shape Y.n Y.n f.fa
           subst (Sizes Y.n (suc k)) (sym (component-after Y.n (row Y.h k) (at Y.r k) (at z k) g y)) (record { tells = tells-way y l w; kept = kept-way w })
 
       go : (t : Answer Vector) {l : Left Factored} → Tells k t → Kept Y.n l → Sizes Y.n (suc k) (onward f (record { told = t; left = l }) (component Y.n (row Y.h k) (at Y.r k) (at z k)))
-      go (refused j) e s = record { tells = no j; kept = s }
-      go (answered y) e s = let o = one _ y (shape-final f F s) (told-length e) in record { tells = o.tells; kept = kept-later s o.kept }
+      go (Err j) e s = record { tells = no j; kept = s }
+      go (Ok y) e s = let o = one _ y (shape-final f F s) (told-length e) in record { tells = o.tells; kept = kept-later s o.kept }
 
   pub update-tells : Tells Y.m (update Y z f).told
   unfolding update
@@ -86,6 +88,6 @@ predict-kept M u f F = go (cholesky M.n (predicted_covariance M (covariance M.n 
     sized : (L : Matrix) → Shape M.n M.n L → Sized M.n (factored x L)
     sized L h = record { state = length-predicted_state M u f.state; factor = h }
 
-    go : (a : Answer Matrix) → ((L : Matrix) → a ≡ answered L → Shape M.n M.n L) → Kept M.n (a else_leave (this (factored x f.factor)) then λ L. done {R = Unit {0}} tt (factored x L)).left
-    go (refused k) h = some _ (sized f.factor F)
-    go (answered L) h = some _ (sized L (h L refl))
+    go : (a : Answer Matrix) → ((L : Matrix) → a ≡ Ok L → Shape M.n M.n L) → Kept M.n (a else_leave (this (factored x f.factor)) then λ L. done {R = Unit {0}} tt (factored x L)).left
+    go (Err k) h = some _ (sized f.factor F)
+    go (Ok L) h = some _ (sized L (h L refl))

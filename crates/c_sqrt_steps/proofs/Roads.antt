@@ -8,18 +8,16 @@ use lib.ListN.{length, set, take, drop}
 use lib.Seq.{take-add, drop-drop}
 use lib.Ieee.{Float}
 use borrow.Author.Tests.{eq-eqb}
-use Rattle.answer.specs.declared.Status.{Status}
-use Rattle.answer.specs.Answer.{Answer, refused, answered}
+use Rattle.std.specs.Prelude.{Ok, Err}
+use Rattle.answer.specs.declared.Refusal.{Refusal}
+use Rattle.answer.specs.Answer.{Answer}
 use Rattle.answer.specs.Outcome.{Outcome, Left, unchanged, this, if_fitting, standing}
-use Rattle.answer.specs.Told.{number_of, status_number}
-use Rattle.answer.proofs.Answers.{differ}
+use Rattle.answer.specs.Told.{number, number_of}
+use Rattle.answer.proofs.Answers.{differ, same_answer, same-refusal}
 use Rattle.algebra.specs.Matrix.{Vector, at, row}
 use Rattle.algebra.proofs.Matrices.{shape-mat}
 use Rattle.sizes.specs.Size.{sized}
-use Rattle.matrix.specs.declared.ScalarResult.{ScalarResult}
-use Rattle.matrix.specs.declared.ScalarResult.TheVariants as Scalar
 use Rattle.matrix.specs.Result.{as_one}
-use Rattle.matrix.proofs.Results.{answered-value, refused-number}
 use Rattle.filtering.specs.Filter.{Sensor}
 use Rattle.filtering.specs.SquareRoot.{Factored, factored, predict, update}
 use Rattle.layout.specs.Layout.{placed}
@@ -35,7 +33,7 @@ use Rattle.c_roads.proofs.Roads as Linear
 use Rattle.c_sqrt_kalman.specs.Root.{is_filter, is_step, is_step_with, factored_at, with_factored, stepped_in}
 use Rattle.c_sqrt_steps.specs.Step.{motion_at, channel_at, predict_in, outcome_in, update_in}
 use Rattle.c_sqrt_steps.proofs.Outcomes.{Tells, told-length, update-tells}
-use Rattle.c_sqrt_steps.proofs.Steps.{number_is, placed-again}
+use Rattle.c_sqrt_steps.proofs.Steps.{placed-again}
 
 -- ---- what the filter of one road holds where a linear one has its estimate and its noise
 abbrev kept : Filter → Factored
@@ -67,20 +65,20 @@ put f l unchanged e p = p ∙ (λ t. with_factored 2 1 1 f (e t)) ∙ again f l
 put f l (this h) e p = p ∙ λ t. with_factored 2 1 1 f (e t)
 
 -- ---- a prediction: r is the road as the code has it, and v what is told to be left
-pub predicts : {n m i : ℕ} (f u : List Float) (R : Linear.Road n m i (length f) (length u)) (r : Road) → road_of r ≡ road_in f → {s : Status} {v : Pair} {g : List Float} {k : ℕ}
+pub predicts : {n m i : ℕ} (f u : List Float) (R : Linear.Road n m i (length f) (length u)) (r : Road) → road_of r ≡ road_in f → {s : Answer (Unit {0})} {v : Pair} {g : List Float} {k : ℕ}
     → (s, factored_of v) ≡ stepped_of (factored_of r.pair) (predict (road_of r).motion (at u 0 ∷ []) (factored_of r.pair))
-    → g ≡ with_estimate 2 1 1 f (estimate_of v) → k ≡ status_number s → (k, g) ≡ predict_in n m i f u
+    → g ≡ with_estimate 2 1 1 f (estimate_of v) → k ≡ number_of s → (k, g) ≡ predict_in n m i f u
 predicts f u R r read {s} {v} {g} e p ek =
     let o = predict (motion_at 2 1 1 f) u (factored_at 2 1 1 f) in
     let same : (s, factored_of v) ≡ stepped_of (factored_at 2 1 1 f) o =
     e ∙ ap₂ (λ (G : Filter) (w : Vector). stepped_of (kept G) (predict G.motion w (kept G))) read (whole-vector 1 u R.one) in
-    (λ t. ((ek ∙ number_is o.told (λ t. (same t).0)) t, put f R.long o.left (λ t. (same t).1) p t))
+    (λ t. ((ek ∙ λ t. number_of (same t).0) t, put f R.long o.left (λ t. (same t).1) p t))
     ∙ ap (λ (b : Bool). stepped_in 2 1 1 f (if_fitting b o)) (sym (step-passed R.long R.one))
     ∙ (λ t. predict_in (sym R.states t) (sym R.measurements t) (sym R.inputs t) f u)
 
 -- ---- an update, which tells a; y held the innovation's place
-module _ {n m i : ℕ} (f z y : List Float) (R : Linear.Road n m i (length f) (length z)) (ly : length y ≡ 1) (r : Road) (read : road_of r ≡ road_in f) {a : ScalarResult} {v : Pair} {g : List Float}
-    (e : (a, factored_of v) ≡ updated_of (factored_of r.pair) (update (channel_of r.h0 r.h1 r.r) (at z 0 ∷ []) (factored_of r.pair))) (p : g ≡ with_estimate 2 1 1 f (estimate_of v)) where
+module _ {n m i : ℕ} (f z y : List Float) (R : Linear.Road n m i (length f) (length z)) (ly : length y ≡ 1) (r : Road) (read : road_of r ≡ road_in f) {a : Answer Float} {v : Pair} {g : List Float}
+    (e : (a, factored_of v) ≡ updated_of (factored_of r.pair) (update (channel_of r.sensor) (at z 0 ∷ []) (factored_of r.pair))) (p : g ≡ with_estimate 2 1 1 f (estimate_of v)) where
   abbrev outcome : Outcome Factored Vector
   outcome = update (channel_at 2 1 1 f) z (factored_at 2 1 1 f)
 
@@ -99,23 +97,19 @@ module _ {n m i : ℕ} (f z y : List Float) (R : Linear.Road n m i (length f) (l
   tells : Tells 1 outcome.told
   tells = update-tells (channel_at 2 1 1 f) z (factored_at 2 1 1 f) (shape-mat 2 2 (λ i j. at f (15 + i * 2 + j)))
 
-  pub updates : {x : Float} → a ≡ Scalar.Value x → (0, (g, set y 0 x)) ≡ update_in n m i f z y
-  updates {x} d = by_sizes (go outcome.told tells (λ t. (same t).0))
+  pub updates : {x : Float} → a ≡ Ok x → (0, (g, set y 0 x)) ≡ update_in n m i f z y
+  updates {x} d = by_sizes (go outcome.told tells (sym d ∙ λ t. (same t).0))
     where
-      go : (b : Answer Vector) → Tells 1 b → a ≡ as_one b → ◌≡◌ {A = ℕ × (List Float × List Float)} (0, (g, set y 0 x)) (number_of b, (standing (with_factored 2 1 1 f) f outcome.left, told_in y b))
-      go (refused j) w q = absurd (differ (answered-value (refused j) q d))
-      go (answered c) w q =
-          let is : ◌≡◌ {A = Answer Float} (answered (at c 0)) (answered x) = answered-value (answered (at c 0)) q d in
-          let number : x ≡ at c 0 = cc in
+      go : (b : Answer Vector) → Tells 1 b → Ok x ≡ as_one b → ◌≡◌ {A = ℕ × (List Float × List Float)} (0, (g, set y 0 x)) (number_of b, (standing (with_factored 2 1 1 f) f outcome.left, told_in y b))
+      go (Err j) w q = absurd (differ (sym q))
+      go (Ok c) w q =
+          let number : x ≡ at c 0 = same_answer q in
           let there : set y 0 x ≡ c = one_place y x ly ∙ ap (λ (k : Float). k ∷ []) number ∙ whole-vector 1 c (told-length w) in
           λ t. (0, (slice_is t, there t))
 
-  pub refuses : {k : ℕ} → a ≡ Scalar.Refused k → (k, (g, y)) ≡ update_in n m i f z y
-  refuses {k} d = by_sizes (go outcome.told (λ t. (same t).0))
+  pub refuses : {k : Refusal} → a ≡ Err k → (number k, (g, y)) ≡ update_in n m i f z y
+  refuses {k} d = by_sizes (go outcome.told (sym d ∙ λ t. (same t).0))
     where
-      go : (b : Answer Vector) → a ≡ as_one b → ◌≡◌ {A = ℕ × (List Float × List Float)} (k, (g, y)) (number_of b, (standing (with_factored 2 1 1 f) f outcome.left, told_in y b))
-      go (refused j) q =
-          let is : ◌≡◌ {A = Answer Float} (refused j) (refused k) = refused-number (refused j) q d in
-          let number : k ≡ j = cc in
-          λ t. (number t, (slice_is t, y))
-      go (answered c) q = absurd (differ (sym (refused-number (answered (at c 0)) q d)))
+      go : (b : Answer Vector) → Err k ≡ as_one b → ◌≡◌ {A = ℕ × (List Float × List Float)} (number k, (g, y)) (number_of b, (standing (with_factored 2 1 1 f) f outcome.left, told_in y b))
+      go (Err j) q = let same : k ≡ j = same-refusal q in λ t. (number (same t), (slice_is t, y))
+      go (Ok c) q = absurd (differ q)

@@ -6,21 +6,20 @@ use native.Mathlib.Omega.{arith}
 use lib.ListN.{length, take, drop, length-take, length-drop, take-append-drop}
 use lib.Seq.{take-add, drop-drop}
 use lib.Ieee.{Float}
-use Rattle.answer.specs.declared.Status.{Status}
-use Rattle.answer.specs.declared.Status.TheVariants.{Done, Refused}
-use Rattle.answer.specs.Answer.{Answer, refused, answered}
+use Rattle.std.specs.Prelude.{Ok, Err}
+use Rattle.answer.specs.declared.Refusal.{Refusal}
+use Rattle.answer.specs.Answer.{Answer}
+use Rattle.answer.proofs.Answers.{differ, same_answer, same-refusal}
 use Rattle.answer.specs.Outcome.{Outcome, Left, standing, handed}
-use Rattle.answer.specs.Told.{status_of, status_number, number_of}
+use Rattle.answer.specs.Told.{number, number_of}
 use Rattle.algebra.specs.Matrix.{Vector, Matrix}
 use Rattle.algebra.specs.Array.{cut, used, pad_row, pad}
 use Rattle.algebra.proofs.Matrices.{shape-mat}
 use Rattle.algebra.proofs.Arrays.{cut-pad_row, used-pad}
 use Rattle.sizes.specs.declared.Size.{Size}
-use Rattle.matrix.specs.declared.VectorResult.{VectorResult}
 use Rattle.sizes.specs.Size.{size_of, count}
 use Rattle.matrix.specs.Result.{as_vector}
 use Rattle.sizes.proofs.Sizes.{is_count}
-use Rattle.matrix.proofs.Results.{done_not_refused}
 use Rattle.filtering.specs.SquareRoot.{Factored, factored, predict, update}
 use Rattle.layout.specs.Layout.{vector_at, matrix_at, vector_in, matrix_in, joined, placed, put_at, root_parts}
 use Rattle.layout.proofs.Places.{placed-whole}
@@ -45,11 +44,6 @@ placed-again k w f h =
     ∙ append_assoc (take k f) (take w (drop k f)) (drop w (drop k f))
     ∙ ap (λ (l : List Float). take k f ++ l) (take-append-drop w (drop k f))
     ∙ take-append-drop k f
-
--- a status, as the number that is told
-pub number_is : {R : Type 0} (a : Answer R) {s : Status} → s ≡ status_of a → status_number s ≡ number_of a
-number_is (refused j) e = ap status_number e
-number_is (answered r) e = ap status_number e
 
 -- where the state begins, as the code has it
 pub place : {n m i k : ℕ} → Whole n m i k → k - (n + n * n) ≡ state_place n m i
@@ -120,24 +114,24 @@ module _ (n m i : ℕ) (f : List Float) (W : Whole n m i (length f)) {N M I : Si
   vector-given : {j : ℕ} (J : Size) (u : List Float) {v : List Float} → count J ≡ j → length u ≡ j → v ≡ pad_row (vector_in (count J) u 0) → cut (count J) v ≡ u
   vector-given {j} J u d l e = vector-used 0 u d (omega (arith, l)) e ∙ whole-vector j u l
 
-  pub predicts : (u : List Float) {a b q l l' : Rows} {v x x' g : List Float} {s : Status} → length u ≡ i
+  pub predicts : (u : List Float) {a b q l l' : Rows} {v x x' g : List Float} {s : Answer (Unit {0})} → length u ≡ i
       → a ≡ pad (matrix_in (count N) (count N) f 0)
       → b ≡ pad (matrix_in (count N) (count I) f (n * n))
       → q ≡ pad (matrix_in (count N) (count N) f (n * n + n * i + m * n))
       → v ≡ pad_row (vector_in (count I) u 0)
       → x ≡ pad_row (vector_in (count N) f k)
       → l ≡ pad (matrix_in (count N) (count N) f (k + n))
-      → (s, (x', l')) ≡ handed status_of arrays_of (x, l) (predict (motion_rows N I a b q) (cut (count I) v) (factored_rows N x l))
+      → (s, (x', l')) ≡ handed (λ t. t) arrays_of (x, l) (predict (motion_rows N I a b q) (cut (count I) v) (factored_rows N x l))
       → g ≡ put_at k (cut (count N) x' ++ joined (used (count N) (count N) l')) f
-      → (status_number s, g) ≡ stepped_in n m i f (predict (motion_at n m i f) u (factored_at n m i f))
+      → (number_of s, g) ≡ stepped_in n m i f (predict (motion_at n m i f) u (factored_at n m i f))
   predicts u {l = l} {x = x} lu ea eb eq ev ex el e r =
       let o = predict (motion_at n m i f) u (factored_at n m i f) in
-      let both = e ∙ (λ t. handed status_of arrays_of (x, l) (predict (motion-read ea eb eq t) (vector-given I u is_i lu ev t) (factored-read ex el t))) in
+      let both = e ∙ (λ t. handed (λ t. t) arrays_of (x, l) (predict (motion-read ea eb eq t) (vector-given I u is_i lu ev t) (factored-read ex el t))) in
       let kept = predict-kept (motion_at n m i f) u (factored_at n m i f) (shape-mat n n _) in
-      λ t. (number_is o.told (λ t. (both t).0) t, put_back ex el kept (λ t. (both t).1) r t)
+      λ t. (number_of (both t).0, put_back ex el kept (λ t. (both t).1) r t)
 
   -- ---- an update: y held the innovations' place
-  module _ (z : List Float) (lz : length z ≡ m) {h l l' : Rows} {r w x x' g : List Float} {v : VectorResult}
+  module _ (z : List Float) (lz : length z ≡ m) {h l l' : Rows} {r w x x' g : List Float} {v : Answer (List Float)}
       (eh : h ≡ pad (matrix_in (count M) (count N) f (n * n + n * i)))
       (er : r ≡ pad_row (vector_in (count M) f (n * n + n * i + m * n + n * n)))
       (ew : w ≡ pad_row (vector_in (count M) z 0))
@@ -157,22 +151,22 @@ module _ (n m i : ℕ) (f : List Float) (W : Whole n m i (length f)) {N M I : Si
     tells : Tells m outcome.told
     tells = update-tells (channel_at n m i f) z (factored_at n m i f) (shape-mat n n _)
 
-    pub updates : (y : List Float) {y' : List Float} → length y ≡ m → v.status ≡ Done → y' ≡ put_at 0 (cut (count M) v.cells) y → (0, (g, y')) ≡ outcome_in n m i f y outcome
-    updates y {y'} ly d ey = go outcome.told tells (λ t. (same t).0)
+    pub updates : (y : List Float) {q y' : List Float} → length y ≡ m → v ≡ Ok q → y' ≡ put_at 0 (cut (count M) q) y → (0, (g, y')) ≡ outcome_in n m i f y outcome
+    updates y {q} {y'} ly d ey = go outcome.told tells (sym d ∙ λ t. (same t).0)
       where
-        go : (a : Answer Vector) → Tells m a → v ≡ as_vector a → ◌≡◌ {A = ℕ × (List Float × List Float)} (0, (g, y')) (number_of a, (standing (with_factored n m i f) f outcome.left, told_in y a))
-        go (refused j) w e = absurd (done_not_refused (sym d ∙ λ t. (e t).status))
-        go (answered c) w e =
+        go : (a : Answer Vector) → Tells m a → Ok q ≡ as_vector a → ◌≡◌ {A = ℕ × (List Float × List Float)} (0, (g, y')) (number_of a, (standing (with_factored n m i f) f outcome.left, told_in y a))
+        go (Err j) w e = absurd (differ (sym e))
+        go (Ok c) w e =
             let lc = told-length w in
             let there : y' ≡ c =
-            vector-put 0 y v.cells is_m (omega (arith, ly)) ey
-            ∙ ap (λ (q : Vector). placed 0 q y) (ap (cut m) (λ t. (e t).cells) ∙ cut-pad_row m c lc)
+            vector-put 0 y q is_m (omega (arith, ly)) ey
+            ∙ ap (λ (q : Vector). placed 0 q y) (ap (cut m) (same_answer e) ∙ cut-pad_row m c lc)
             ∙ placed-whole c y (lc ∙ sym ly) in
             λ t. (0, (slice_is t, there t))
 
-    pub refuses : (y : List Float) {j : ℕ} → v.status ≡ Refused j → (j, (g, y)) ≡ outcome_in n m i f y outcome
-    refuses y {j} d = go outcome.told tells (λ t. (same t).0)
+    pub refuses : (y : List Float) {j : Refusal} → v ≡ Err j → (number j, (g, y)) ≡ outcome_in n m i f y outcome
+    refuses y {j} d = go outcome.told (sym d ∙ λ t. (same t).0)
       where
-        go : (a : Answer Vector) → Tells m a → v ≡ as_vector a → ◌≡◌ {A = ℕ × (List Float × List Float)} (j, (g, y)) (number_of a, (standing (with_factored n m i f) f outcome.left, told_in y a))
-        go (refused q) w e = let there : ◌≡◌ {A = Status} (Refused j) (Refused q) = sym d ∙ (λ t. (e t).status) in let number : j ≡ q = cc in λ t. (number t, (slice_is t, y))
-        go (answered c) w e = absurd (done_not_refused ((λ t. (sym e t).status) ∙ d))
+        go : (a : Answer Vector) → Err j ≡ as_vector a → ◌≡◌ {A = ℕ × (List Float × List Float)} (number j, (g, y)) (number_of a, (standing (with_factored n m i f) f outcome.left, told_in y a))
+        go (Err q) e = let there : j ≡ q = same-refusal e in λ t. (number (there t), (slice_is t, y))
+        go (Ok c) e = absurd (differ e)

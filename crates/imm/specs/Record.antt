@@ -1,34 +1,23 @@
 -- The record of a bank of models: what it holds, and what each method makes of it. Definitions only.
-use Rattle.std.specs.Prelude.{ℕ, ◌&&◌, List, [], ltb, get_or, replicate, Float}
+use Rattle.std.specs.Prelude.{ℕ, ◌&&◌, List, [], ltb, get_or, Float}
 use Rattle.std.specs.Float.{nan}
-use Rattle.scalar.specs.Number.{+0}
+use Rattle.answer.specs.declared.Step.{Step}
 use Rattle.answer.specs.Answer.{Answer, where_sized}
 use Rattle.answer.specs.Outcome.{into, handed}
-use Rattle.answer.specs.Told.{status_of}
 use Rattle.answer.specs.Table.{table}
-use Rattle.algebra.specs.Matrix.{Vector, Matrix, at, row}
+use Rattle.algebra.specs.Matrix.{Matrix, at, row}
 use Rattle.algebra.specs.Array.{cut, used, used_flat, pad_row, pad, rows_of_flat, flat_of_rows}
-use Rattle.matrix.specs.declared.VectorResult.{VectorResult}
-use Rattle.matrix.specs.declared.ScalarResult.{ScalarResult}
-use Rattle.matrix.specs.Result.{as_vector, as_scalar}
-use Rattle.filtering.specs.Filter.{Estimate, estimate}
+use Rattle.matrix.specs.Result.{as_vector}
+use Rattle.filtering.specs.Filter.{estimate}
 use Rattle.mixing.specs.Mixing.{Bank, model, uniform, mix_estimates, update_probabilities, fused_estimate}
 use Rattle.steps.specs.Step.{well_sized}
 use Rattle.imm.specs.declared.ImmModel.{ImmModel}
 use Rattle.imm.specs.declared.ImmEstimator.{ImmEstimator}
-use Rattle.imm.specs.declared.Stepped.{Stepped}
 
 abbrev Rows : Type 0
 Rows = List (List Float)
 
 -- ---- the models
-abbrev zeros16 : List Float
-zeros16 = replicate 16 +0
-
--- +0 everywhere
-abbrev pub no_model : ImmModel
-no_model = record { a = zeros16; x_hat = replicate 4 +0; p = zeros16; q = zeros16; likelihood = +0 }
-
 abbrev pub model_at : List ImmModel → ℕ → ImmModel
 model_at M i = get_or M i (record { a = []; x_hat = []; p = []; q = []; likelihood = nan })
 
@@ -72,26 +61,22 @@ holding e B = keeping e (table 4 (λ i. with_estimate (model_at e.models i) (pad
 abbrev pub weighing : ImmEstimator → Bank → ImmEstimator
 weighing e B = keeping e e.models (pad_row B.probabilities)
 
--- no sizes, and +0 everywhere
-abbrev pub no_estimator : ImmEstimator
-no_estimator = record { n = 0; m = 0; k = 0; models = replicate 4 no_model; transition = zeros16; mu = replicate 4 +0; c = zeros16; r = zeros16 }
-
 -- ---- what each method hands back: 1 where a size does not fit, else that of the bank
-abbrev pub stepped : (ImmEstimator → Bank → ImmEstimator) → ImmEstimator → Answer Bank → Stepped
-stepped put e a = let w = handed status_of (put e) e (into a) in record { answer = w.0; estimator = w.1 }
+abbrev pub stepped : (ImmEstimator → Bank → ImmEstimator) → ImmEstimator → Answer Bank → Step (Unit {0}) ImmEstimator
+stepped put e a = let w = handed (λ t. t) (put e) e (into a) in record { answer = w.0; left = w.1 }
 
-abbrev pub mix_of : ImmEstimator → Stepped
+abbrev pub mix_of : ImmEstimator → Step (Unit {0}) ImmEstimator
 mix_of e = stepped holding e (where_sized (well_sized e.n e.m e.k) (mix_estimates e.n e.k (transition_of e) (bank_of e)))
 
-abbrev pub probabilities_of : ImmEstimator → Stepped
+abbrev pub probabilities_of : ImmEstimator → Step (Unit {0}) ImmEstimator
 probabilities_of e = stepped weighing e (where_sized (well_sized e.n e.m e.k) (update_probabilities e.k (bank_of e)))
 
-abbrev pub fused_of : ImmEstimator → VectorResult
+abbrev pub fused_of : ImmEstimator → Answer (List Float)
 fused_of e = as_vector (where_sized (well_sized e.n e.m e.k) (fused_estimate e.n e.k (bank_of e)))
 
 -- the probability of model j, one of those that are there
-abbrev pub probability_of : ImmEstimator → ℕ → ScalarResult
-probability_of e j = as_scalar (where_sized (well_sized e.n e.m e.k && ltb j e.k) (at e.mu j))
+abbrev pub probability_of : ImmEstimator → ℕ → Answer Float
+probability_of e j = where_sized (well_sized e.n e.m e.k && ltb j e.k) (at e.mu j)
 
 -- the record of the models M, and of the used parts of a transition, a measurement matrix and a noise
 abbrev pub record_of : ℕ → ℕ → ℕ → List ImmModel → Rows → Rows → Rows → ImmEstimator
@@ -106,9 +91,5 @@ record_of n m k M T c r = record {
   r = flat_of_rows (pad (used m m r));
 }
 
--- beside a refusal there is no estimator
-abbrev pub made : Answer ImmEstimator → Stepped
-made a = let w = handed status_of (λ e. e) no_estimator (into a) in record { answer = w.0; estimator = w.1 }
-
-abbrev pub new_of : ℕ → ℕ → ℕ → List ImmModel → Rows → Rows → Rows → Stepped
-new_of n m k M T c r = made (where_sized (well_sized n m k) (record_of n m k M T c r))
+abbrev pub new_of : ℕ → ℕ → ℕ → List ImmModel → Rows → Rows → Rows → Answer ImmEstimator
+new_of n m k M T c r = where_sized (well_sized n m k) (record_of n m k M T c r)

@@ -3,13 +3,10 @@
 #![tactic(auto)]
 
 ghost use Rattle.std.specs.Prelude.{◌≡◌};
-ghost use Rattle.imm.specs.Record.{states_of, covariances_of, likelihoods_of, with_estimate, with_estimates, no_model, no_estimator};
+ghost use Rattle.imm.specs.Record.{states_of, covariances_of, likelihoods_of, with_estimate, with_estimates};
 ghost use Rattle.imm.specs.Record.{new_of, mix_of, probabilities_of, fused_of, probability_of};
 
-use answer::Status;
-use matrix::{ScalarResult, VectorResult};
-use sizes::size_of;
-use steps::is_well_sized;
+use answer::{Refusal, Step};
 
 // A model of n states: transition a (n by n), state x_hat, covariance p (n by n), process noise q (n by n), and the likelihood of
 // the measurement under it. A matrix stands flat, four numbers a row; what stands outside its sizes is ignored.
@@ -36,22 +33,12 @@ pub struct ImmEstimator {
     pub r: [f64; 16],
 }
 
-// A step's answer, and the estimator that it leaves.
-#[derive(Clone, Copy)]
-pub struct Stepped {
-    pub answer: Status,
-    pub estimator: ImmEstimator,
-}
-
-// ---- the models' numbers as rows
+// ---- the models' numbers as rows. By name, model for model: an array's `map` goes by an iterator that holds all four records.
 
 fn states(models: [ImmModel; 4]) -> [[f64; 4]; 4]
     ensures { result ≡ states_of models }
 {
-    let m0 = models[0];
-    let m1 = models[1];
-    let m2 = models[2];
-    let m3 = models[3];
+    let [m0, m1, m2, m3] = models;
     let x0 = m0.x_hat;
     let x1 = m1.x_hat;
     let x2 = m2.x_hat;
@@ -62,10 +49,7 @@ fn states(models: [ImmModel; 4]) -> [[f64; 4]; 4]
 fn covariances(models: [ImmModel; 4]) -> [[[f64; 4]; 4]; 4]
     ensures { result ≡ covariances_of models }
 {
-    let m0 = models[0];
-    let m1 = models[1];
-    let m2 = models[2];
-    let m3 = models[3];
+    let [m0, m1, m2, m3] = models;
     let p0 = kernel::from_flat(&m0.p);
     let p1 = kernel::from_flat(&m1.p);
     let p2 = kernel::from_flat(&m2.p);
@@ -76,10 +60,7 @@ fn covariances(models: [ImmModel; 4]) -> [[[f64; 4]; 4]; 4]
 fn likelihoods(models: [ImmModel; 4]) -> [f64; 4]
     ensures { result ≡ likelihoods_of models }
 {
-    let m0 = models[0];
-    let m1 = models[1];
-    let m2 = models[2];
-    let m3 = models[3];
+    let [m0, m1, m2, m3] = models;
     [m0.likelihood, m1.likelihood, m2.likelihood, m3.likelihood]
 }
 
@@ -102,40 +83,12 @@ fn with_estimates<'a>(
 ) -> [ImmModel; 4]
     ensures { result ≡ with_estimates models x.now p.now }
 {
-    let m0 = models[0];
-    let m1 = models[1];
-    let m2 = models[2];
-    let m3 = models[3];
+    let [m0, m1, m2, m3] = models;
     let w0 = with_estimate(m0, x[0], &p[0]);
     let w1 = with_estimate(m1, x[1], &p[1]);
     let w2 = with_estimate(m2, x[2], &p[2]);
     let w3 = with_estimate(m3, x[3], &p[3]);
     [w0, w1, w2, w3]
-}
-
-// What stands beside a refusal: no sizes, and +0 everywhere.
-fn no_estimator() -> ImmEstimator
-    ensures { result ≡ no_estimator }
-{
-    let z = [0.0; 16];
-    let model = ImmModel {
-        a: z,
-        x_hat: [0.0; 4],
-        p: z,
-        q: z,
-        likelihood: 0.0,
-    };
-    let models = [model; 4];
-    ImmEstimator {
-        n: 0,
-        m: 0,
-        k: 0,
-        models,
-        transition: z,
-        mu: [0.0; 4],
-        c: z,
-        r: z,
-    }
 }
 
 impl ImmEstimator {
@@ -148,117 +101,82 @@ impl ImmEstimator {
         transition: [[f64; 4]; 4],
         c: [[f64; 4]; 4],
         r: [[f64; 4]; 4],
-    ) -> Stepped
+    ) -> Result<ImmEstimator, Refusal>
         ensures { result ≡ new_of n m k models transition c r }
     {
-        if is_well_sized(n, m, k) {
-            let sn = size_of(n);
-            let sm = size_of(m);
-            let sk = size_of(k);
-            Stepped {
-                answer: Status::Done,
-                estimator: ImmEstimator {
-                    n,
-                    m,
-                    k,
-                    models,
-                    transition: kernel::flat_part(&transition, sk, sk),
-                    mu: imm_steps::uniform(sk),
-                    c: kernel::flat_part(&c, sm, sn),
-                    r: kernel::flat_part(&r, sm, sm),
-                },
-            }
-        } else {
-            Stepped {
-                answer: Status::Refused(1),
-                estimator: no_estimator(),
-            }
-        }
+        let (sn, sm, sk) = steps::sized(n, m, k)?;
+        Ok(ImmEstimator {
+            n,
+            m,
+            k,
+            models,
+            transition: kernel::flat_part(&transition, sk, sk),
+            mu: imm_steps::uniform(sk),
+            c: kernel::flat_part(&c, sm, sn),
+            r: kernel::flat_part(&r, sm, sm),
+        })
     }
 
     // Every model's state and covariance mixed from those of all; mu becomes the predicted probabilities. Refused with 1: a
     // size of the record.
-    pub fn mix_estimates(self) -> Stepped
+    pub fn mix_estimates(self) -> Step<(), ImmEstimator>
         ensures { result ≡ mix_of self }
     {
-        if is_well_sized(self.n, self.m, self.k) {
-            let t = kernel::from_flat(&self.transition);
-            let models = self.models;
-            let mut x = states(models);
-            let mut p = covariances(models);
-            let mut mu = self.mu;
-            imm_steps::mix(
-                &t,
-                size_of(self.n),
-                size_of(self.k),
-                &mut x,
-                &mut p,
-                &mut mu,
-            );
-            let mixed = with_estimates(models, &x, &p);
-            let mut estimator = self;
-            estimator.models = mixed;
-            estimator.mu = mu;
-            Stepped {
-                answer: Status::Done,
-                estimator,
+        let mut left = self;
+        let answer = match steps::sized(self.n, self.m, self.k) {
+            Ok((n, _, k)) => {
+                let t = kernel::from_flat(&self.transition);
+                let models = self.models;
+                let mut x = states(models);
+                let mut p = covariances(models);
+                let mut mu = self.mu;
+                imm_steps::mix(&t, n, k, &mut x, &mut p, &mut mu);
+                left.models = with_estimates(models, &x, &p);
+                left.mu = mu;
+                Ok(())
             }
-        } else {
-            Stepped {
-                answer: Status::Refused(1),
-                estimator: self,
-            }
-        }
+            Err(refusal) => Err(refusal),
+        };
+        Step { answer, left }
     }
 
     // mu becomes each probability times its likelihood, as a part of their sum; 1 / k each where the sum is below EPSILON.
     // Refused as mix_estimates.
-    pub fn update_probabilities(self) -> Stepped
+    pub fn update_probabilities(self) -> Step<(), ImmEstimator>
         ensures { result ≡ probabilities_of self }
     {
-        if is_well_sized(self.n, self.m, self.k) {
-            let models = self.models;
-            let l = likelihoods(models);
-            let mut mu = self.mu;
-            imm_steps::update_probabilities(l, size_of(self.k), &mut mu);
-            let mut estimator = self;
-            estimator.mu = mu;
-            Stepped {
-                answer: Status::Done,
-                estimator,
+        let mut left = self;
+        let answer = match steps::sized(self.n, self.m, self.k) {
+            Ok((_, _, k)) => {
+                let l = likelihoods(self.models);
+                let mut mu = self.mu;
+                imm_steps::update_probabilities(l, k, &mut mu);
+                left.mu = mu;
+                Ok(())
             }
-        } else {
-            Stepped {
-                answer: Status::Refused(1),
-                estimator: self,
-            }
-        }
+            Err(refusal) => Err(refusal),
+        };
+        Step { answer, left }
     }
 
     // The states by their probabilities, of n numbers. Refused as mix_estimates.
-    pub fn fused_estimate(self) -> VectorResult
+    pub fn fused_estimate(self) -> Result<[f64; 4], Refusal>
         ensures { result ≡ fused_of self }
     {
-        if is_well_sized(self.n, self.m, self.k) {
-            let models = self.models;
-            let x = states(models);
-            let mu = self.mu;
-            let fused = imm_steps::weighted(&x, mu, size_of(self.n), size_of(self.k));
-            matrix::vector_result(Status::Done, fused)
-        } else {
-            matrix::vector_refused(1)
-        }
+        let (n, _, k) = steps::sized(self.n, self.m, self.k)?;
+        let x = states(self.models);
+        Ok(imm_steps::weighted(&x, self.mu, n, k))
     }
 
     // The probability of model j, from 0. Refused with 1: a size of the record, or there is no such model.
-    pub fn model_probability(self, j: usize) -> ScalarResult
+    pub fn model_probability(self, j: usize) -> Result<f64, Refusal>
         ensures { result ≡ probability_of self j }
     {
-        if is_well_sized(self.n, self.m, self.k) {
-            if j < self.k {
-                return ScalarResult::Value(self.mu[j]);
-            }
+        let _ = steps::sized(self.n, self.m, self.k)?;
+        if j < self.k {
+            Ok(self.mu[j])
+        } else {
+            Err(Refusal::WrongSize)
         }
-        ScalarResult::Refused(1)
     }
 }

@@ -1,9 +1,8 @@
 -- Two models of one road, two states each, by their numbers. Definitions only.
-use Rattle.std.specs.Prelude.{cond, [], ◌∷◌, Float}
-use Rattle.std.specs.Float.Ieee.{lt}
-use Rattle.scalar.specs.Number.{◌⊗◌, ◌⊘◌, +0, epsilon}
+use Rattle.std.specs.Prelude.{[], ◌∷◌, Float}
 use Rattle.algebra.specs.Matrix.{Vector}
 use Rattle.mixing.specs.Mixing.{Bank}
+use Rattle.imm_steps.specs.Bank.{share_of}
 use Rattle.road.specs.declared.Pair.{Pair}
 use Rattle.road.specs.Road.{estimate_of}
 
@@ -13,4 +12,4 @@ bank_of e f m n = record { estimates = estimate_of e ∷ estimate_of f ∷ []; l
 
 -- the weights in a model of the predicted probability c
 abbrev pub shares_of : Float → Float → Float → Float → Float → Vector
-shares_of s t m n c = cond (lt epsilon c) (m ⊗ s ⊘ c) +0 ∷ cond (lt epsilon c) (n ⊗ t ⊘ c) +0 ∷ []
+shares_of s t m n c = share_of m s c ∷ share_of n t c ∷ []

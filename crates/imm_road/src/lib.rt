@@ -8,8 +8,6 @@ ghost use Rattle.mixing.specs.Mixing.{mixed_estimate, mix_estimates};
 ghost use Rattle.imm_road.specs.Road.{bank_of, shares_of};
 
 use road::{Pair, Two};
-use rows::pick;
-use scalar::ControlScalar;
 
 // The weights of the first and of the second model.
 #[derive(Clone, Copy)]
@@ -31,9 +29,8 @@ pub struct Roads {
 fn weights(s: f64, t: f64, mu0: f64, mu1: f64, c: f64) -> Shares
     ensures { (result.a ∷ result.b ∷ []) ≡ shares_of s t mu0 mu1 c }
 {
-    let likely = c > ControlScalar::EPSILON;
-    let a = pick(likely, mu0 * s / c, 0.0);
-    let b = pick(likely, mu1 * t / c, 0.0);
+    let a = imm_steps::share(mu0, s, c);
+    let b = imm_steps::share(mu1, t, c);
     Shares { a, b }
 }
 
@@ -61,20 +58,25 @@ fn mixed(e: Pair, f: Pair, w: Shares) -> Pair
     }
 }
 
-// Both models mixed by the transition t; the probabilities become the predicted ones.
-pub fn mix(t: Two, mu0: f64, mu1: f64, e: Pair, f: Pair) -> Roads
-    ensures { bank_of result.first result.second result.mu0 result.mu1 ≡ mix_estimates 2 2 (matrix_of t) (bank_of e f mu0 mu1) }
-{
-    let c0 = 0.0 + mu0 * t.a + mu1 * t.c;
-    let c1 = 0.0 + mu0 * t.b + mu1 * t.d;
-    let v = weights(t.a, t.c, mu0, mu1, c0);
-    let w = weights(t.b, t.d, mu0, mu1, c1);
-    let first = mixed(e, f, v);
-    let second = mixed(e, f, w);
-    Roads {
-        first,
-        second,
-        mu0: c0,
-        mu1: c1,
+impl Roads {
+    // Both models mixed by the transition t; the probabilities become the predicted ones.
+    pub fn mix(self, t: Two) -> Roads
+        ensures { bank_of result.first result.second result.mu0 result.mu1
+            ≡ mix_estimates 2 2 (matrix_of t) (bank_of self.first self.second self.mu0 self.mu1) }
+    {
+        let e = self.first;
+        let f = self.second;
+        let c0 = 0.0 + self.mu0 * t.a + self.mu1 * t.c;
+        let c1 = 0.0 + self.mu0 * t.b + self.mu1 * t.d;
+        let v = weights(t.a, t.c, self.mu0, self.mu1, c0);
+        let w = weights(t.b, t.d, self.mu0, self.mu1, c1);
+        let first = mixed(e, f, v);
+        let second = mixed(e, f, w);
+        Roads {
+            first,
+            second,
+            mu0: c0,
+            mu1: c1,
+        }
     }
 }

@@ -4,22 +4,26 @@ use mathlib.Core.Bool.{cond}
 use mathlib.Core.List.{List, []}
 use Prim.Native.Nat.{ℕ, ◌≤◌, ◌<◌}
 use native.Mathlib.Nat.{le_trans}
+use native.Mathlib.Omega.{arith}
+use lib.Dec.{leb}
 use lib.ListN.{length, get_or}
 use lib.Ieee.{Float, nan, lt}
 use Rattle.scalar.specs.Number.{◌⊕◌, ◌⊖◌, ◌⊗◌, ◌⊘◌, +0, epsilon}
 use Rattle.scalar.proofs.Product.{times-comm}
 use Rattle.answer.specs.Table.{table, pad_to}
 use Rattle.answer.proofs.Tables.{get_or-table, table_ext, length-table}
-use Rattle.algebra.specs.Matrix.{Vector, at, row, cell, mat, sum_of, vec_sub}
+use Rattle.algebra.specs.Matrix.{Vector, at, row, cell, mat, dot, sum_of, vec_sub}
 use Rattle.algebra.specs.Array.{cut, used}
 use Rattle.algebra.proofs.Matrices.{sum_ext, cell-mat, mat_ext}
 use Rattle.algebra.proofs.Arrays.{at_cut, cell-used}
 use Rattle.sizes.specs.declared.Size.{Size}
 use Rattle.sizes.specs.declared.Size.TheVariants.{One, Two, Three, Four}
 use Rattle.sizes.specs.Size.{count}
+use Rattle.sizes.proofs.Sizes.{bounds}
+use Rattle.rows.proofs.Kernels.{dot-sized}
 use Rattle.filtering.specs.Filter.{Estimate, estimate}
 use Rattle.mixing.specs.Mixing.{Bank, model, uniform, predicted, weights, weighted, spread, mixed_covariance, update_probabilities}
-use Rattle.imm_steps.specs.Bank.{spread_cell}
+use Rattle.imm_steps.specs.Bank.{share_of}
 
 -- ---- probabilities and weights
 module _ (K : ℕ) (t : List (List Float)) (μ : List Float) where
@@ -36,21 +40,24 @@ module _ (K : ℕ) (t : List (List Float)) (μ : List Float) where
       table_ext K (λ j. sum_of K (λ i. at (cut K μ) i ⊗ cell (used K K t) i j)) (λ j. sum_of K (share j))
       (λ j h. sum_ext K (λ i. at (cut K μ) i ⊗ cell (used K K t) i j) (share j) (λ i g. share-used j i h g))
 
-  -- four weights of which K are used
-  pub weights-used : (j : ℕ) {c : Float} {w : List Float} → K ≤ 4 → j < K → c ≡ at (predicted K (used K K t) (cut K μ)) j
-      → w ≡ table 4 (λ i. cond (lt epsilon c) (share j i ⊘ c) +0) → cut K w ≡ weights K (used K K t) (cut K μ) j
+  -- the weights in model j, read off the rows of all models
+  pub weights-used : (j : ℕ) (c : List Float) (w : List (List Float)) → K ≤ 4 → j < K → at c j ≡ at (predicted K (used K K t) (cut K μ)) j
+      → ((i : ℕ) → i < K → cut K (row w i) ≡ table K (λ j. share_of (at μ i) (cell t i j) (at c j))) → cut K (table 4 (λ i. cell w i j)) ≡ weights K (used K K t) (cut K μ) j
   unfolding cut weights
-  weights-used j {c} {w} most h e p =
-      ap (cut K) p
-      ∙ table_ext K (λ i. at (table 4 f) i) (λ i. g i c)
-      (λ i l. get_or-table 4 f i nan (le_trans l most) ∙ sym (ap (λ (x : Float). cond (lt epsilon c) (x ⊘ c) +0) (share-used j i h l)))
-      ∙ ap (λ (x : Float). table K (λ i. g i x)) e
+  weights-used j c w most h e s =
+      table_ext K (λ i. at (table 4 (λ i. cell w i j)) i) (λ i. cond (lt epsilon (at P j)) (at (cut K μ) i ⊗ cell (used K K t) i j ⊘ at P j) +0)
+      (λ i l. get_or-table 4 (λ i. cell w i j) i nan (le_trans l most) ∙ sym (at_cut K (row w i) j h) ∙ ap (λ (v : Vector). at v j) (s i l)
+      ∙ get_or-table K (λ j. share_of (at μ i) (cell t i j) (at c j)) j nan h
+      ∙ ap (share_of (at μ i) (cell t i j)) e
+      ∙ sym (ap (λ (x : Float). cond (lt epsilon (at P j)) (x ⊘ at P j) +0) (share-used j i h l)))
     where
-      f : ℕ → Float
-      f i = cond (lt epsilon c) (share j i ⊘ c) +0
+      P : Vector
+      P = predicted K (used K K t) (cut K μ)
 
-      g : ℕ → Float → Float
-      g i x = cond (lt epsilon x) (at (cut K μ) i ⊗ cell (used K K t) i j ⊘ x) +0
+-- the sum of the products of the used numbers, as the code has it
+pub products-used : (k : Size) (v w : List Float) {n : ℕ} {s : Float} → n ≡ count k → s ≡ cond (leb n 4) (dot n v w) +0 → s ≡ sum_of (count k) (λ i. at v i ⊗ at w i)
+unfolding dot
+products-used k v w {n} e p = dot-sized n p (omega (arith, e, bounds k)) ∙ ap (λ (n : ℕ). sum_of n (λ i. at v i ⊗ at w i)) e
 
 -- the sum of probability × likelihood, and what follows from it
 module _ (K : ℕ) (E : List Estimate) (L μ : List Float) where
@@ -90,39 +97,47 @@ module _ (n K : ℕ) (x : List (List Float)) (p : List (List (List Float))) (L �
   unfolding weighted
   length-weighted v = length-table n (λ r. sum_of K (λ i. at (model bank i).state r ⊗ at v i))
 
-  -- d has each model's state less the mixed state m
-  module _ (m : List Float) (d : List (List Float)) (small : n ≤ 4) (few : K ≤ 4) (isD : d ≡ table 4 (λ i. vec_sub 4 (row x i) m)) where
-    cell_deviations : (i r : ℕ) → i < K → r < n → cell d i r ≡ cell x i r ⊖ at m r
-    unfolding vec_sub
-    cell_deviations i r hi hr =
-        ap (λ (e : List (List Float)). cell e i r) isD
-        ∙ ap (λ (v : List Float). at v r) (get_or-table 4 (λ i. vec_sub 4 (row x i) m) i [] (le_trans hi few))
-        ∙ get_or-table 4 (λ r. cell x i r ⊖ at m r) r nan (le_trans hr small)
+  -- model i's number of the covariance and its spread around the mixed state m, times its weight
+  abbrev pub spread_at : List Float → ℕ → ℕ → ℕ → Float
+  spread_at m r c i = (cell (get_or p i []) r c ⊕ (+0 ⊕ (cell x i r ⊖ at m r) ⊗ (cell x i c ⊖ at m c))) ⊗ at w i
 
-    deviation_is : (i r : ℕ) → i < K → r < n → at (vec_sub n (cut n (row x i)) (cut n m)) r ≡ cell d i r
+  module _ (m : List Float) where
+    deviation_is : (i r : ℕ) → r < n → at (vec_sub n (cut n (row x i)) (cut n m)) r ≡ cell x i r ⊖ at m r
     unfolding vec_sub
-    deviation_is i r hi hr =
-        get_or-table n (λ r. at (cut n (row x i)) r ⊖ at (cut n m) r) r nan hr
-        ∙ ap₂ (λ (y z : Float). y ⊖ z) (at_cut n (row x i) r hr) (at_cut n m r hr)
-        ∙ sym (cell_deviations i r hi hr)
+    deviation_is i r h =
+        get_or-table n (λ r. at (cut n (row x i)) r ⊖ at (cut n m) r) r nan h
+        ∙ ap₂ (λ (y z : Float). y ⊖ z) (at_cut n (row x i) r h) (at_cut n m r h)
 
-    spread_is : (i r c : ℕ) → i < K → r < n → c < n → cell (spread n (model bank i) (cut n m)) r c ≡ spread_cell p d i r c
+    spread_is : (i r c : ℕ) → i < K → r < n → c < n → cell (spread n (model bank i) (cut n m)) r c ⊗ at (cut K w) i ≡ spread_at m r c i
     unfolding spread
     spread_is i r c hi hr hc =
-        ap (λ (e : Estimate). cell (spread n e (cut n m)) r c) (model_is i hi)
-        ∙ cell-mat n n (λ r c. cell (used n n (get_or p i [])) r c ⊕ (+0 ⊕ at v r ⊗ at v c)) r c hr hc
-        ∙ ap₂ (λ (s y : Float). s ⊕ (+0 ⊕ y ⊗ at v c)) (cell-used n n (get_or p i []) r c hr hc) (deviation_is i r hi hr)
-        ∙ ap (λ (z : Float). cell (get_or p i []) r c ⊕ (+0 ⊕ cell d i r ⊗ z)) (deviation_is i c hi hc)
+        ap (λ (e : Estimate). cell (spread n e (cut n m)) r c ⊗ at (cut K w) i) (model_is i hi)
+        ∙ ap (λ (y : Float). y ⊗ at (cut K w) i) (cell-mat n n (λ r c. cell (used n n (get_or p i [])) r c ⊕ (+0 ⊕ at v r ⊗ at v c)) r c hr hc)
+        ∙ λ z. (cell-used n n (get_or p i []) r c hr hc z ⊕ (+0 ⊕ deviation_is i r hr z ⊗ deviation_is i c hc z)) ⊗ at_cut K w i hi z
       where
         v : Vector
         v = vec_sub n (cut n (row x i)) (cut n m)
 
-    pub covariance-used : mixed_covariance n K bank (cut K w) (cut n m) ≡ mat n n (λ r c. sum_of K (λ i. at w i ⊗ spread_cell p d i r c))
+    pub covariance-used : mixed_covariance n K bank (cut K w) (cut n m) ≡ mat n n (λ r c. sum_of K (spread_at m r c))
     unfolding mixed_covariance
     covariance-used =
-        mat_ext n n (λ r c. sum_of K (λ i. cell (spread n (model bank i) (cut n m)) r c ⊗ at (cut K w) i)) (λ r c. sum_of K (λ i. at w i ⊗ spread_cell p d i r c))
-        (λ r c hr hc. sum_ext K (λ i. cell (spread n (model bank i) (cut n m)) r c ⊗ at (cut K w) i) (λ i. at w i ⊗ spread_cell p d i r c)
-        (λ i l. ap₂ (λ (y z : Float). y ⊗ z) (spread_is i r c l hr hc) (at_cut K w i l) ∙ times-comm (spread_cell p d i r c) (at w i)))
+        mat_ext n n (λ r c. sum_of K (λ i. cell (spread n (model bank i) (cut n m)) r c ⊗ at (cut K w) i)) (λ r c. sum_of K (spread_at m r c))
+        (λ r c hr hc. sum_ext K (λ i. cell (spread n (model bank i) (cut n m)) r c ⊗ at (cut K w) i) (spread_at m r c) (λ i hi. spread_is i r c hi hr hc))
+
+    -- row r of all four models, and their deviations there
+    pub row-used : (r : ℕ) {v : List Float} → K ≤ 4
+        → v ≡ table 4 (λ c. sum_of K (λ i. (cell (table 4 (λ i. row (get_or p i []) r)) i c ⊕ (+0 ⊕ at (table 4 (λ i. cell x i r ⊖ at m r)) i ⊗ (cell x i c ⊖ at m c))) ⊗ at w i))
+        → v ≡ table 4 (λ c. sum_of K (spread_at m r c))
+    row-used r few e =
+        e ∙ table_ext 4 (λ c. sum_of K (term c)) (λ c. sum_of K (spread_at m r c))
+        (λ c g. sum_ext K (term c) (spread_at m r c)
+        (λ i h. λ z. (cells c i h z ⊕ (+0 ⊕ get_or-table 4 (λ i. cell x i r ⊖ at m r) i nan (le_trans h few) z ⊗ (cell x i c ⊖ at m c))) ⊗ at w i))
+      where
+        term : ℕ → ℕ → Float
+        term c i = (cell (table 4 (λ i. row (get_or p i []) r)) i c ⊕ (+0 ⊕ at (table 4 (λ i. cell x i r ⊖ at m r)) i ⊗ (cell x i c ⊖ at m c))) ⊗ at w i
+
+        cells : (c i : ℕ) → i < K → cell (table 4 (λ i. row (get_or p i []) r)) i c ≡ cell (get_or p i []) r c
+        cells c i h = ap (λ (v : List Float). at v c) (get_or-table 4 (λ i. row (get_or p i []) r) i [] (le_trans h few))
 
 -- ---- what a loop over the models leaves: a place for each of four, of which k are used
 pub models-out : {A : Type 0} (g : Estimate → A) (f : ℕ → Estimate) (k : Size) {z : A} → z ≡ g (estimate [] [])

@@ -1,11 +1,10 @@
 -- A turn of the loop over the models makes a mixed estimate; all turns make the mixed bank. Assumes nothing.
 use mathlib.Core.Path.{◌≡◌, refl, sym, ap, ap₂, ◌∙◌}
-use mathlib.Core.Bool.{cond}
 use mathlib.Core.List.{List, []}
 use Prim.Native.Nat.{ℕ, ◌≤◌, ◌<◌}
 use lib.ListN.{length, replicate}
-use lib.Ieee.{Float, nan, lt}
-use Rattle.scalar.specs.Number.{◌⊗◌, ◌⊘◌, +0, epsilon}
+use lib.Ieee.{Float, nan}
+use Rattle.scalar.specs.Number.{◌⊗◌, +0}
 use Rattle.answer.specs.Table.{table}
 use Rattle.answer.proofs.Tables.{get_or-pad_to, length-table, Filling, filling-all}
 use Rattle.algebra.specs.Matrix.{Vector, Matrix, at, cell, sum_of}
@@ -16,8 +15,8 @@ use Rattle.sizes.specs.Size.{count, front, part}
 use Rattle.sizes.proofs.Sizes.{bounds}
 use Rattle.filtering.specs.Filter.{Estimate}
 use Rattle.mixing.specs.Mixing.{Bank, predicted, weights, weighted, mixed_covariance, mixed_estimate, mix_estimates}
-use Rattle.imm_steps.specs.Bank.{bank_rows, rows_of}
-use Rattle.imm_steps.proofs.Banks.{share, weights-used, weighted-used, length-weighted, models-out}
+use Rattle.imm_steps.specs.Bank.{bank_rows, rows_of, Shares}
+use Rattle.imm_steps.proofs.Banks.{weights-used, weighted-used, length-weighted, models-out}
 
 length-predicted : (K : ℕ) (T : Matrix) (μ : Vector) → length (predicted K T μ) ≡ K
 unfolding predicted
@@ -40,12 +39,12 @@ module _ (n k : Size) (t : List (List Float)) (x : List (List Float)) (p : List 
   abbrev pub mixed : ℕ → Estimate
   mixed j = mixed_estimate N K B (W j)
 
-  -- what a turn has of its weights w: c holds the predicted probabilities
-  pub weights_are : (j : ℕ) {c w : List Float} → j < K → c ≡ pad_row (predicted K (part k k t) (front k μ))
-      → w ≡ table 4 (λ i. cond (lt epsilon (at c j)) (share K t μ j i ⊘ at c j) +0) → cut K w ≡ W j
-  weights_are j {c} h e p =
-      weights-used K t μ j (bounds k).most h
-      (ap (λ (v : List Float). at v j) e ∙ get_or-pad_to 4 +0 (predicted K (part k k t) (front k μ)) j nan (rw (length-predicted K (part k k t) (front k μ)) h)) p
+  -- what a turn has of the weights w of all models: c holds the predicted probabilities
+  pub weights_are : (j : ℕ) (c : List Float) (w : List (List Float)) → j < K → c ≡ pad_row (predicted K (part k k t) (front k μ)) → Shares k t μ c w
+      → cut K (table 4 (λ i. cell w i j)) ≡ W j
+  weights_are j c w h e s =
+      weights-used K t μ j c w (bounds k).most h
+      (ap (λ (v : List Float). at v j) e ∙ get_or-pad_to 4 +0 (predicted K (part k k t) (front k μ)) j nan (rw (length-predicted K (part k k t) (front k μ)) h)) s
 
   pub state-turn : (j : ℕ) (w : List Float) {m : List Float} → cut K w ≡ W j → m ≡ pad_row (weighted N K (bank_rows n k x [] [] []) (cut K w)) → m ≡ pad_row (mixed j).state
   unfolding mixed_estimate

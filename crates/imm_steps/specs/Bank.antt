@@ -30,10 +30,6 @@ rows_of B = (table 4 (λ i. pad_row (model B i).state), (table 4 (λ i. pad (mod
 abbrev pub mixed_rows : Size → Size → Rows → Rows → List Rows → List Float → Rows × (List Rows × List Float)
 mixed_rows n k t x p μ = rows_of (mix_estimates (count n) (count k) (part k k t) (bank_rows n k x p [] μ))
 
--- row r, column c of model i's covariance and its spread, for the deviations d: the product is a sum of one term
-abbrev pub spread_cell : List Rows → Rows → ℕ → ℕ → ℕ → Float
-spread_cell p d i r c = cell (get_or p i []) r c ⊕ (+0 ⊕ cell d i r ⊗ cell d i c)
-
 -- ---- by the numbers of each model: row i of w has the weights of model i in every model
 
 -- the weight in a model of the predicted probability c of one of the probability m, which goes over with t

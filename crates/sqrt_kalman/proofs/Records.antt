@@ -1,11 +1,12 @@
 -- What the rows read from a record's numbers x and s hold, and an outcome in rows and in such numbers. Assumes nothing.
 use mathlib.Core.Path.{◌≡◌, refl, sym, ap, ◌∙◌}
 use mathlib.Core.List.{List}
+use mathlib.Core.Bool.{Bool, true}
 use Prim.Native.Nat.{ℕ}
 use lib.ListN.{length}
 use lib.Ieee.{Float, nan}
 use Rattle.answer.specs.Answer.{Answer}
-use Rattle.answer.specs.Outcome.{Outcome, Left, unchanged, this, standing, handed}
+use Rattle.answer.specs.Outcome.{Outcome, Left, unchanged, this, standing, handed, if_fitting}
 use Rattle.answer.specs.Table.{table}
 use Rattle.answer.proofs.Tables.{table-get_or}
 use Rattle.algebra.specs.Matrix.{Vector, at}
@@ -47,3 +48,8 @@ module _ {R T : Type 0} (tell : Answer R → T) where
       go : (l : Left Factored) → ◌≡◌ {A = T × (List Float × List Float)} (tell o.told, ((standing arrays_of (x, a) l).0, flat_of_rows (standing arrays_of (x, a) l).1)) (tell o.told, standing flats_of (x, s) l)
       go unchanged = λ k. (tell o.told, (x, e k))
       go (this g) = refl
+
+-- ---- the ways through a step f of the n states and the asked numbers: b is the test of the sizes, which the call o gave
+module _ {W R T : Type 0} (tell : Answer R → T) (put : Factored → W) (w : W) {b : Bool} where
+  pub by_sizes : (f : ℕ → ℕ → Outcome Factored R) {n asked j l : ℕ} {y : T × W} → b ≡ true → j ≡ n → l ≡ asked → y ≡ handed tell put w (f j l) → y ≡ handed tell put w (if_fitting b (f n asked))
+  by_sizes f h d e q = q ∙ λ k. handed tell put w (if_fitting (sym h k) (f (d k) (e k)))

@@ -1,12 +1,10 @@
 -- The filter record of the code: what it holds, and what each method makes of it. Definitions only.
 use Rattle.std.specs.Prelude.{ℕ, List, [], ◌∷◌, Float}
+use Rattle.answer.specs.declared.Step.{Step}
 use Rattle.answer.specs.Answer.{Answer, where_sized, if_sized, mapped}
 use Rattle.answer.specs.Outcome.{Outcome, into, if_fitting, handed}
-use Rattle.answer.specs.Told.{status_of}
 use Rattle.algebra.specs.Matrix.{Vector}
 use Rattle.algebra.specs.Array.{cut, used, used_flat, pad_row}
-use Rattle.matrix.specs.declared.MatrixResult.{MatrixResult}
-use Rattle.matrix.specs.declared.VectorResult.{VectorResult}
 use Rattle.matrix.specs.Result.{as_matrix, as_vector}
 use Rattle.filtering.specs.Filter.{Motion, Sensor, Estimate}
 use Rattle.filtering.specs.SquareRoot.{Factored, factored, of_estimate, covariance, predict, update}
@@ -14,9 +12,6 @@ use Rattle.steps.specs.Step.{well_sized, fitting}
 use Rattle.matrix.specs.Result.{as_one}
 use Rattle.steps.specs.Flat.{flat, motion_flat, estimate_from}
 use Rattle.sqrt_kalman.specs.declared.SqrtKalman.{SqrtKalman}
-use Rattle.sqrt_kalman.specs.declared.Stepped.{Stepped}
-use Rattle.sqrt_kalman.specs.declared.Updated.{Updated}
-use Rattle.sqrt_kalman.specs.declared.UpdatedOne.{UpdatedOne}
 
 -- ---- what the numbers of a record hold: its matrices stand flat, as the linear filter's do
 abbrev pub channel_flat : ℕ → ℕ → List Float → List Float → Sensor Vector
@@ -68,10 +63,6 @@ keeping f w = record {
 abbrev pub holding : SqrtKalman → Factored → SqrtKalman
 holding f g = keeping f (flats_of g)
 
--- no sizes, and +0 everywhere
-abbrev pub no_filter : SqrtKalman
-no_filter = record_of (record { n = 0; i = 0; a = []; b = []; q = [] }) (record { n = 0; m = 0; h = []; r = [] }) (factored [] [])
-
 -- ---- the outcome of each step: 1 where a size does not fit, else that of the filter
 abbrev pub held : SqrtKalman → Factored
 held f = factored_flat f.n f.x f.s_chol
@@ -87,37 +78,33 @@ abbrev pub resetting : SqrtKalman → List Float → List (List Float) → ℕ �
 resetting f x p k = into (if_sized (fitting f.n f.m f.i f.n k) (of_estimate f.n (estimate_from f.n x p)))
 
 -- ---- what each method hands back: its answer, and the filter that it leaves
-abbrev pub stepped : {R : Type 0} → SqrtKalman → Outcome Factored R → Stepped
-stepped f o = let w = handed status_of (holding f) f o in record { answer = w.0; filter = w.1 }
+abbrev pub stepped : SqrtKalman → Outcome Factored (Unit {0}) → Step (Unit {0}) SqrtKalman
+stepped f o = let w = handed (λ t. t) (holding f) f o in record { answer = w.0; left = w.1 }
 
-abbrev pub predict_of : SqrtKalman → List Float → ℕ → Stepped
+abbrev pub predict_of : SqrtKalman → List Float → ℕ → Step (Unit {0}) SqrtKalman
 predict_of f u k = stepped f (predicting f u k)
 
-abbrev pub reset_of : SqrtKalman → List Float → List (List Float) → ℕ → Stepped
+abbrev pub reset_of : SqrtKalman → List Float → List (List Float) → ℕ → Step (Unit {0}) SqrtKalman
 reset_of f x p k = stepped f (resetting f x p k)
 
-abbrev pub update_of : SqrtKalman → List Float → ℕ → Updated
-update_of f z k = let w = handed as_vector (holding f) f (updating f (cut f.m z) k) in record { answer = w.0; filter = w.1 }
+abbrev pub update_of : SqrtKalman → List Float → ℕ → Step (List Float) SqrtKalman
+update_of f z k = let w = handed as_vector (holding f) f (updating f (cut f.m z) k) in record { answer = w.0; left = w.1 }
 
 -- one reading: the innovation is a number
-abbrev pub update_one_of : SqrtKalman → Float → UpdatedOne
-update_one_of f z = let w = handed as_one (holding f) f (updating f (z ∷ []) 1) in record { answer = w.0; filter = w.1 }
+abbrev pub update_one_of : SqrtKalman → Float → Step Float SqrtKalman
+update_one_of f z = let w = handed as_one (holding f) f (updating f (z ∷ []) 1) in record { answer = w.0; left = w.1 }
 
--- beside a refusal there is no filter
-abbrev pub made : Answer SqrtKalman → Stepped
-made a = let w = handed status_of (λ f. f) no_filter (into a) in record { answer = w.0; filter = w.1 }
+abbrev pub from_cholesky_of : Motion → Sensor Vector → Factored → Answer SqrtKalman
+from_cholesky_of M Y f = where_sized (well_sized M.n Y.m M.i) (record_of M Y f)
 
-abbrev pub from_cholesky_of : Motion → Sensor Vector → Factored → Stepped
-from_cholesky_of M Y f = made (where_sized (well_sized M.n Y.m M.i) (record_of M Y f))
+abbrev pub new_of : Motion → Sensor Vector → Estimate → Answer SqrtKalman
+new_of M Y e = if_sized (well_sized M.n Y.m M.i) (mapped (record_of M Y) (of_estimate M.n e))
 
-abbrev pub new_of : Motion → Sensor Vector → Estimate → Stepped
-new_of M Y e = made (if_sized (well_sized M.n Y.m M.i) (mapped (record_of M Y) (of_estimate M.n e)))
-
-abbrev pub state_of : SqrtKalman → VectorResult
+abbrev pub state_of : SqrtKalman → Answer (List Float)
 state_of f = as_vector (where_sized (well_sized f.n f.m f.i) (cut f.n f.x))
 
-abbrev pub covariance_of : SqrtKalman → MatrixResult
+abbrev pub covariance_of : SqrtKalman → Answer (List (List Float))
 covariance_of f = as_matrix (where_sized (well_sized f.n f.m f.i) (covariance f.n (held f)))
 
-abbrev pub cholesky_factor_of : SqrtKalman → MatrixResult
+abbrev pub cholesky_factor_of : SqrtKalman → Answer (List (List Float))
 cholesky_factor_of f = as_matrix (where_sized (well_sized f.n f.m f.i) (used_flat f.n f.n f.s_chol))

@@ -1,11 +1,11 @@
 -- The downdate of a factor of two rows, written out, by what its diagonals answer. Assumes nothing.
 use mathlib.Core.Path.{◌≡◌, refl, sym, ap, ◌∙◌}
 use mathlib.Core.List.{[], ◌∷◌}
-use Prim.Native.Nat.{ℕ}
 use lib.Ieee.{Float}
 use Rattle.scalar.specs.Number.{◌⊖◌, ◌⊗◌, ◌⊘◌}
-use Rattle.answer.specs.declared.Status.TheVariants.{Done, Refused}
-use Rattle.answer.specs.Answer.{Answer, refused, answered}
+use Rattle.std.specs.Prelude.{Ok, Err}
+use Rattle.answer.specs.declared.Refusal.{Refusal}
+use Rattle.answer.specs.Answer.{Answer}
 use Rattle.answer.specs.Outcome.{Outcome, unchanged, only, done, onward, ◌else_leave◌then◌}
 use Rattle.algebra.specs.Matrix.{Vector, Matrix, two_by_two}
 use Rattle.filtering.specs.SquareRoot.{turned_diagonal, rotate, rotated}
@@ -44,19 +44,19 @@ module _ (l : Two) (v w : Float) where
   abbrev after : Float → Answer Float → Outcome Matrix Vector
   after d a = onward L (done (v ∷ turned d ∷ []) (two_by_two d l.b (below d) l.d)) (λ _ _. second d a)
 
-  after_is : (d : Float) → both (answered d) ≡ after d (turned_diagonal (l.d ⊗ l.d ⊖ turned d ⊗ turned d))
+  after_is : (d : Float) → both (Ok d) ≡ after d (turned_diagonal (l.d ⊗ l.d ⊖ turned d ⊗ turned d))
   unfolding rotate
   after_is d = refl
 
-  pub first-refused : {k : ℕ} → turned_diagonal (l.a ⊗ l.a ⊖ v ⊗ v) ≡ refused k → (Refused k, L) ≡ turned_of L (rotated 2 2 L vw)
+  pub first-refused : {k : Refusal} → turned_diagonal (l.a ⊗ l.a ⊖ v ⊗ v) ≡ Err k → (Err k, L) ≡ turned_of L (rotated 2 2 L vw)
   first-refused q = sym (ap (turned_of L) (both_is ∙ ap both q))
 
-  module _ {d : Float} (q : turned_diagonal (l.a ⊗ l.a ⊖ v ⊗ v) ≡ answered d) where
+  module _ {d : Float} (q : turned_diagonal (l.a ⊗ l.a ⊖ v ⊗ v) ≡ Ok d) where
     by_second : {a : Answer Float} → turned_diagonal (l.d ⊗ l.d ⊖ turned d ⊗ turned d) ≡ a → rotated 2 2 L vw ≡ after d a
     by_second r = both_is ∙ ap both q ∙ after_is d ∙ ap (after d) r
 
-    pub second-refused : {k : ℕ} → turned_diagonal (l.d ⊗ l.d ⊖ turned d ⊗ turned d) ≡ refused k → (Refused k, two_by_two d l.b (below d) l.d) ≡ turned_of L (rotated 2 2 L vw)
+    pub second-refused : {k : Refusal} → turned_diagonal (l.d ⊗ l.d ⊖ turned d ⊗ turned d) ≡ Err k → (Err k, two_by_two d l.b (below d) l.d) ≡ turned_of L (rotated 2 2 L vw)
     second-refused r = sym (ap (turned_of L) (by_second r))
 
-    pub downdated : {e : Float} → turned_diagonal (l.d ⊗ l.d ⊖ turned d ⊗ turned d) ≡ answered e → (Done, two_by_two d l.b (below d) e) ≡ turned_of L (rotated 2 2 L vw)
+    pub downdated : {e : Float} → turned_diagonal (l.d ⊗ l.d ⊖ turned d ⊗ turned d) ≡ Ok e → (Ok tt, two_by_two d l.b (below d) e) ≡ turned_of L (rotated 2 2 L vw)
     downdated r = sym (ap (turned_of L) (by_second r))

@@ -2,15 +2,16 @@
 use mathlib.Core.Path.{◌≡◌, refl, sym, ap, ◌∙◌}
 use mathlib.Core.Bool.{Bool, cond}
 use mathlib.Core.List.{List}
-use Prim.Native.Nat.{ℕ, zero, suc, ◌<◌}
+use Prim.Native.Nat.{ℕ, zero, suc, ◌<◌, ◌≤◌}
 use native.Mathlib.Nat.{le_trans}
 use native.Mathlib.Omega.{arith}
 use borrow.Author.Tests.{le-ltb}
 use lib.Dec.{eqb, ltb, eqb-zero-suc, eqb-suc-zero, eqb-suc-suc}
 use lib.Ieee.{Float, nan}
 use Rattle.scalar.specs.Number.{◌⊖◌, ◌⊗◌, ◌⊘◌}
-use Rattle.answer.specs.declared.Status.TheVariants.{Done, Refused}
-use Rattle.answer.specs.Answer.{Answer, refused, answered}
+use Rattle.std.specs.Prelude.{Ok, Err}
+use Rattle.answer.specs.declared.Refusal.{Refusal}
+use Rattle.answer.specs.Answer.{Answer}
 use Rattle.answer.specs.Outcome.{Outcome, unchanged, done, ◌else_leave◌then◌}
 use Rattle.answer.specs.Table.{table}
 use Rattle.answer.proofs.Choice.{cond-false}
@@ -26,6 +27,9 @@ use Rattle.rows.proofs.Kernels.{leading_row}
 use Rattle.filtering.specs.SquareRoot.{turned_diagonal, rotate}
 use Rattle.steps.specs.Step.{Rows}
 use Rattle.sqrt_steps.specs.Step.{turned_column, turned_vector, with_column, rotated_rows}
+
+pub at_most_four : (n : Size) → count n ≤ 4
+at_most_four n = (bounds n).most
 
 -- cell i below the diagonal turned, and y elsewhere
 abbrev pub turned_or : ℕ → Float → Float → List Float → List Float → ℕ → Float → Float
@@ -81,10 +85,10 @@ module _ (n : Size) (k : ℕ) (l : Rows) (v : List Float) (h : k < count n) wher
       let y = at_cut N v k h in
       (λ i. turned N k L W (x i) (y i) (turned_diagonal (x i ⊗ x i ⊖ y i ⊗ y i))) ∙ ap (turned N k L W (cell l k k) (at v k)) q
 
-  pub when_refused : {j : ℕ} → turned_diagonal square ≡ refused j → (Refused j, (l, v)) ≡ rotated_rows l v (rotate N k L W)
+  pub when_refused : {j : Refusal} → turned_diagonal square ≡ Err j → (Err j, (l, v)) ≡ rotated_rows l v (rotate N k L W)
   when_refused q = sym (ap (rotated_rows l v) (by_diagonal q))
 
-  module _ {d : Float} {column : List Float} (q : turned_diagonal square ≡ answered d) (is : column ≡ table 4 (λ i. cell l i k)) where
+  module _ {d : Float} {column : List Float} (q : turned_diagonal square ≡ Ok d) (is : column ≡ table 4 (λ i. cell l i k)) where
     abbrev c : Float
     c = d ⊘ cell l k k
 
@@ -121,8 +125,8 @@ module _ (n : Size) (k : ℕ) (l : Rows) (v : List Float) (h : k < count n) wher
         ∙ ap pad_row (table_ext N _ _ (λ i g t. vector_cell k c s i (in_column i g t) (in_vector i g t)))
 
     pub when_turned : {l' t : Rows} {v' w col : List Float} → col ≡ turned_column k d c s column v → t ≡ with_column k col l → l' ≡ pad (part n n t)
-        → w ≡ turned_vector k c s column v → v' ≡ pad_row (front n w) → (Done, (l', v')) ≡ rotated_rows l v (rotate N k L W)
+        → w ≡ turned_vector k c s column v → v' ≡ pad_row (front n w) → (Ok tt, (l', v')) ≡ rotated_rows l v (rotate N k L W)
     when_turned ec et el ew ev =
         let isL = el ∙ ap (λ (a : Rows). pad (part n n a)) (et ∙ ap (λ (u : List Float). with_column k u l) ec) ∙ ap pad factor_is in
         let isV = ev ∙ ap (λ (u : List Float). pad_row (front n u)) ew ∙ vector_is in
-        (λ i. (Done, (isL i, isV i))) ∙ sym (ap (rotated_rows l v) (by_diagonal q))
+        (λ i. (Ok tt, (isL i, isV i))) ∙ sym (ap (rotated_rows l v) (by_diagonal q))

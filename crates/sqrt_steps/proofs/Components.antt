@@ -2,21 +2,21 @@
 use mathlib.Core.Path.{◌≡◌, refl, sym, ap, ap₂, ◌∙◌}
 use mathlib.Core.Bool.{cond}
 use mathlib.Core.List.{List, [], ◌∷◌, ◌++◌}
-use Prim.Native.Nat.{ℕ}
+use Prim.Native.Nat.{ℕ, ◌+◌}
 use native.Mathlib.Nat.{le_trans}
 use native.Mathlib.Omega.{arith}
 use lib.Dec.{leb}
-use lib.ListN.{length}
+use lib.ListN.{length, length-append}
 use lib.Ieee.{Float, nan}
 use Rattle.root.specs.Root.{root}
 use Rattle.scalar.specs.Number.{◌⊕◌, ◌⊖◌, ◌⊗◌, ◌⊘◌, +0}
 use Rattle.scalar.proofs.Product.{times-comm}
-use Rattle.answer.specs.declared.Status.{Status}
-use Rattle.answer.specs.declared.Status.TheVariants.{Done, Refused}
-use Rattle.answer.specs.Answer.{Answer, refused, answered, mapped}
+use Rattle.std.specs.Prelude.{Ok, Err}
+use Rattle.answer.specs.declared.Refusal.{Refusal}
+use Rattle.answer.specs.Answer.{Answer, mapped}
 use Rattle.answer.specs.Outcome.{Outcome, unchanged, this, final, handed, ◌else_leave◌then◌}
-use Rattle.answer.specs.Told.{status_of}
 use Rattle.answer.specs.Table.{table}
+use Rattle.answer.proofs.Answers.{differ, same_answer}
 use Rattle.answer.proofs.Tables.{get_or-table, table_ext}
 use Rattle.algebra.specs.Matrix.{Vector, Matrix, at, cell, sum_of, dot, matvec, transpose, vec_add, vec_scale}
 use Rattle.algebra.specs.Array.{cut, pad_row, pad}
@@ -24,18 +24,14 @@ use Rattle.algebra.proofs.Matrices.{Shape, sum_ext, cell-mat}
 use Rattle.algebra.proofs.Arrays.{at_cut, cell-used, cut-pad_row}
 use Rattle.algebra.proofs.Vectors.{dot-cut, length-vec_add, length-matvec, each-cut}
 use Rattle.sizes.specs.declared.Size.{Size}
-use Rattle.matrix.specs.declared.ScalarResult.{ScalarResult}
-use Rattle.matrix.specs.declared.ScalarResult.TheVariants as Scalar
 use Rattle.sizes.specs.Size.{count, front, part}
-use Rattle.matrix.specs.Result.{as_scalar}
 use Rattle.rows.specs.Row.{row_times}
 use Rattle.sizes.proofs.Sizes.{bounds}
-use Rattle.matrix.proofs.Results.{done_not_refused, answered-value, refused-number}
 use Rattle.rows.proofs.Kernels.{dot-sized}
 use Rattle.filtering.specs.SquareRoot.{Factored, factored, variance, vec_over, rotated, component}
 use Rattle.steps.specs.Step.{Rows}
 use Rattle.matrix.specs.Result.{as_one}
-use Rattle.sqrt_steps.specs.Step.{factored_rows, arrays_of}
+use Rattle.sqrt_steps.specs.Step.{ended, factored_rows, arrays_of}
 use Rattle.sqrt_steps.proofs.Downdates.{Shaped, none, some, shaped-rotated, part-standing}
 
 -- ---- the definition by its numbers
@@ -68,9 +64,9 @@ pub record Sized (n : ℕ) (f : Factored) : Type 0 where
   pub factor : Shape n n f.factor
 
 pub data Way (n : ℕ) : Outcome Factored Vector → Type 0 where
-  stopped : (k : ℕ) → Way n (record { told = refused k; left = unchanged })
-  failed : (k : ℕ) (f : Factored) → Sized n f → Way n (record { told = refused k; left = this f })
-  went : (e : Float) (f : Factored) → Sized n f → Way n (record { told = answered (e ∷ []); left = this f })
+  stopped : (k : Refusal) → Way n (record { told = Err k; left = unchanged })
+  failed : (k : Refusal) (f : Factored) → Sized n f → Way n (record { told = Err k; left = this f })
+  went : (e : Float) (f : Factored) → Sized n f → Way n (record { told = Ok (e ∷ []); left = this f })
 
 module _ (n : ℕ) (h : Vector) (r z : Float) (f : Factored) where
   pub way : Shape n n f.factor → Way n (component n h r z f [])
@@ -85,12 +81,25 @@ module _ (n : ℕ) (h : Vector) (r z : Float) (f : Factored) where
           shape (some L g) = g
 
       told : (t : Answer Vector) (g : Factored) → Sized n g → Way n (record { told = mapped (λ v. residual n h r z f ∷ []) t; left = this g })
-      told (refused k) g s = failed k g s
-      told (answered v) g s = went _ g s
+      told (Err k) g s = failed k g s
+      told (Ok v) g s = went _ g s
 
       go : (a : Answer Float) → Way n (taken n h r z f [] a)
-      go (refused k) = stopped k
-      go (answered s) = told (downdated n h r z f s).told _ (sized s)
+      go (Err k) = stopped k
+      go (Ok s) = told (downdated n h r z f s).told _ (sized s)
+
+  -- one innovation more than before
+  pub length-component : (y : Vector) {v : Vector} → (component n h r z f y).told ≡ Ok v → length v ≡ length y + 1
+  unfolding component
+  length-component y {v} q = go (variance (spread n h r z f)) q
+    where
+      told : (t : Answer Vector) → mapped (λ u. y ++ residual n h r z f ∷ []) t ≡ Ok v → length v ≡ length y + 1
+      told (Err k) q = absurd (differ q)
+      told (Ok u) q = ap length (sym (same_answer q)) ∙ length-append y (residual n h r z f ∷ [])
+
+      go : (a : Answer Float) → (taken n h r z f y a).told ≡ Ok v → length v ≡ length y + 1
+      go (Err k) q = absurd (differ q)
+      go (Ok s) q = told (downdated n h r z f s).told q
 
   -- with the innovations y before it
   pub component-after : (y : Vector) → component n h r z f y ≡ record { told = mapped (λ w. y ++ w) (component n h r z f []).told; left = (component n h r z f []).left }
@@ -98,12 +107,12 @@ module _ (n : ℕ) (h : Vector) (r z : Float) (f : Factored) where
   component-after y = go (variance (spread n h r z f))
     where
       told : (t : Answer Vector) → mapped (λ v. y ++ residual n h r z f ∷ []) t ≡ mapped (λ w. y ++ w) (mapped (λ v. residual n h r z f ∷ []) t)
-      told (refused k) = refl
-      told (answered v) = refl
+      told (Err k) = refl
+      told (Ok v) = refl
 
       go : (a : Answer Float) → taken n h r z f y a ≡ record { told = mapped (λ w. y ++ w) (taken n h r z f [] a).told; left = (taken n h r z f [] a).left }
-      go (refused k) = refl
-      go (answered s) = λ i. record { told = told (downdated n h r z f s).told i; left = this (factored (corrected_state n h r z f s) (final f.factor (downdated n h r z f s).left)) }
+      go (Err k) = refl
+      go (Ok s) = λ i. record { told = told (downdated n h r z f s).told i; left = this (factored (corrected_state n h r z f s) (final f.factor (downdated n h r z f s).left)) }
 
 -- ---- the numbers as the code makes them
 
@@ -143,15 +152,15 @@ module _ (n : Size) (h : List Float) (r z : Float) (x : List Float) (l : Rows) w
         (dot-sized k e (omega (arith, bounds n)) ∙ ap (λ (j : ℕ). dot j t t) ek ∙ sym (dot-cut N t t) ∙ ap (λ (v : Vector). dot N v v) projected_is)
 
     -- what the test of the variance says
-    module _ {k : ℕ} {d : Float} {w : ScalarResult} (ek : k ≡ N) (ed : d ≡ cond (leb k 4) (dot k t t) +0) (ew : w ≡ as_scalar (variance (d ⊕ r ⊗ r))) where
-      tested : w ≡ as_scalar (variance (spread N H r z F))
-      tested = ew ∙ ap (λ (s : Float). as_scalar (variance s)) (spread_is ek ed)
+    module _ {k : ℕ} {d : Float} {w : Answer Float} (ek : k ≡ N) (ed : d ≡ cond (leb k 4) (dot k t t) +0) (ew : w ≡ variance (d ⊕ r ⊗ r)) where
+      tested : {a : Answer Float} → w ≡ a → variance (spread N H r z F) ≡ a
+      tested q = sym (ew ∙ ap variance (spread_is ek ed)) ∙ q
 
-      pub when_refused : {j : ℕ} → w ≡ Scalar.Refused j → (Scalar.Refused j, (x, l)) ≡ handed as_one arrays_of (x, l) (component N H r z F [])
+      pub when_refused : {j : Refusal} → w ≡ Err j → (Err j, (x, l)) ≡ handed as_one arrays_of (x, l) (component N H r z F [])
       unfolding component
-      when_refused q = sym (ap (λ (a : Answer Float). handed as_one arrays_of (x, l) (taken N H r z F [] a)) (refused-number (variance (spread N H r z F)) tested q))
+      when_refused q = sym (ap (λ (a : Answer Float). handed as_one arrays_of (x, l) (taken N H r z F [] a)) (tested q))
 
-      module _ {s y : Float} {g : List Float} (q : w ≡ Scalar.Value s) (ey : y ≡ residual N H r z F) (eg : g ≡ pad_row (matvec N N (part n n l) (front n t))) where
+      module _ {s y : Float} {g : List Float} (q : w ≡ Ok s) (ey : y ≡ residual N H r z F) (eg : g ≡ pad_row (matvec N N (part n n l) (front n t))) where
         abbrev G : Vector
         G = direction N H r z F
 
@@ -163,9 +172,9 @@ module _ (n : Size) (h : List Float) (r z : Float) (x : List Float) (l : Rows) w
             (ap (front n) (eg ∙ ap (λ (v : Vector). pad_row (matvec N N (part n n l) v)) projected_is) ∙ cut-pad_row N G (length-matvec N N (part n n l) (projected N H r z F)))
 
         -- what the corrected state and the downdate say
-        module _ {o u v x' : List Float} {ρ : Float} {st : Status} {l' l'' : Rows}
+        module _ {o u v x' : List Float} {ρ : Float} {st : Answer (Unit {0})} {l' l'' : Rows}
             (eo : o ≡ vec_over 4 g s) (eu : u ≡ vec_scale 4 o y) (ex : x' ≡ pad_row (vec_add N (front n x) (front n u)))
-            (eρ : ρ ≡ root s) (ev : v ≡ vec_over 4 g ρ) (ed' : (st, l') ≡ handed status_of pad l (rotated N N (part n n l) (front n v))) (el : l'' ≡ pad (part n n l')) where
+            (eρ : ρ ≡ root s) (ev : v ≡ vec_over 4 g ρ) (ed' : (st, l') ≡ handed ended pad l (rotated N N (part n n l) (front n v))) (el : l'' ≡ pad (part n n l')) where
           state_is : x' ≡ pad_row (corrected_state N H r z F s)
           unfolding vec_scale
           state_is =
@@ -176,30 +185,20 @@ module _ (n : Size) (h : List Float) (r z : Float) (x : List Float) (l : Rows) w
           abbrev D : Outcome Matrix Vector
           D = downdated N H r z F s
 
-          downdate_is : (st, l') ≡ handed status_of pad l D
-          downdate_is = ed' ∙ ap (λ (a : Vector). handed status_of pad l (rotated N N (part n n l) a)) (over_is ρ ev ∙ ap (vec_over N G) eρ)
+          downdate_is : (st, l') ≡ handed ended pad l D
+          downdate_is = ed' ∙ ap (λ (a : Vector). handed ended pad l (rotated N N (part n n l) a)) (over_is ρ ev ∙ ap (vec_over N G) eρ)
 
           factor_is : l'' ≡ pad (final (part n n l) D.left)
           factor_is =
               el ∙ ap (λ (a : Rows). pad (part n n a)) (λ i. (downdate_is i).1)
               ∙ ap pad (part-standing n l (shaped-rotated N N (part n n l) (vec_over N G (root s))))
 
-          whole : {b : ScalarResult} → b ≡ as_one (mapped (λ v. residual N H r z F ∷ []) D.told) → (b, (x', l'')) ≡ handed as_one arrays_of (x, l) (component N H r z F [])
+          telling : (a : Answer Vector) → mapped {A = Unit {0}} (λ u. y) (ended a) ≡ as_one (mapped (λ v. residual N H r z F ∷ []) a)
+          telling (Err j) = refl
+          telling (Ok v) = ap Ok ey
+
+          pub when_downdated : {b : Answer Float} → b ≡ mapped (λ u. y) st → (b, (x', l'')) ≡ handed as_one arrays_of (x, l) (component N H r z F [])
           unfolding component
-          whole e =
-              (λ i. (e i, (state_is i, factor_is i)))
-              ∙ sym (ap (λ (a : Answer Float). handed as_one arrays_of (x, l) (taken N H r z F [] a)) (answered-value (variance (spread N H r z F)) tested q))
-
-          telling : (a : Answer Vector) → st ≡ status_of a → st ≡ Done → Scalar.Value y ≡ as_one (mapped (λ v. residual N H r z F ∷ []) a)
-          telling (refused j) e d = absurd (done_not_refused (sym d ∙ e))
-          telling (answered v) e d = ap Scalar.Value ey
-
-          stopping : {j : ℕ} (a : Answer Vector) → st ≡ status_of a → st ≡ Refused j → Scalar.Refused j ≡ as_one (mapped (λ v. residual N H r z F ∷ []) a)
-          stopping {j} (refused i) e d = let p : ◌≡◌ {A = Status} (Refused j) (Refused i) = sym d ∙ e in let s : j ≡ i = cc in ap Scalar.Refused s
-          stopping (answered v) e d = absurd (done_not_refused (sym e ∙ d))
-
-          pub when_done : st ≡ Done → (Scalar.Value y, (x', l'')) ≡ handed as_one arrays_of (x, l) (component N H r z F [])
-          when_done d = whole (telling D.told (λ i. (downdate_is i).0) d)
-
-          pub when_failed : {j : ℕ} → st ≡ Refused j → (Scalar.Refused j, (x', l'')) ≡ handed as_one arrays_of (x, l) (component N H r z F [])
-          when_failed d = whole (stopping D.told (λ i. (downdate_is i).0) d)
+          when_downdated e =
+              (λ i. ((e ∙ ap (mapped (λ u. y)) (λ i. (downdate_is i).0) ∙ telling D.told) i, (state_is i, factor_is i)))
+              ∙ sym (ap (λ (a : Answer Float). handed as_one arrays_of (x, l) (taken N H r z F [] a)) (tested q))

@@ -7,11 +7,11 @@ use native.Mathlib.Numerals.{add-one}
 use native.Mathlib.Omega.{arith}
 use lib.ListN.{length}
 use lib.Ieee.{Float}
-use Rattle.answer.specs.declared.Status.{Status}
-use Rattle.answer.specs.declared.Status.TheVariants.{Done, Refused}
-use Rattle.answer.specs.Answer.{Answer, refused, answered}
+use Rattle.std.specs.Prelude.{Ok, Err}
+use Rattle.answer.specs.declared.Refusal.{Refusal}
+use Rattle.answer.specs.Answer.{Answer}
 use Rattle.answer.specs.Outcome.{Outcome, Left, unchanged, this, final, done, later, onward, standing, handed}
-use Rattle.answer.specs.Told.{status_of}
+use Rattle.answer.proofs.Answers.{differ, same-refusal}
 use Rattle.answer.proofs.Tables.{length-table}
 use Rattle.algebra.specs.Matrix.{Vector, Matrix, cell, at}
 use Rattle.algebra.specs.Array.{pad_row, pad}
@@ -19,21 +19,20 @@ use Rattle.algebra.proofs.Matrices.{Shape, shape-mat}
 use Rattle.algebra.proofs.Arrays.{used-pad, cut-pad_row}
 use Rattle.sizes.specs.declared.Size.{Size}
 use Rattle.sizes.specs.Size.{count, front, part}
-use Rattle.matrix.proofs.Results.{done_not_refused}
 use Rattle.scalar.specs.Number.{◌⊖◌, ◌⊗◌}
 use Rattle.filtering.specs.SquareRoot.{turned_diagonal, rotate, rotated}
 use Rattle.steps.specs.Step.{Rows}
-use Rattle.sqrt_steps.specs.Step.{rotated_rows}
+use Rattle.sqrt_steps.specs.Step.{ended, rotated_rows}
 use Rattle.sqrt_steps.proofs.Columns.{turned}
 
 -- ---- one column: nothing changes, or n numbers are told and n rows of n are left
 pub data Way (n : ℕ) : Outcome Matrix Vector → Type 0 where
-  stopped : (k : ℕ) → Way n (record { told = refused k; left = unchanged })
+  stopped : (k : Refusal) → Way n (record { told = Err k; left = unchanged })
   went : (w : Vector) (L : Matrix) → length w ≡ n → Shape n n L → Way n (done w L)
 
 way-turned : (n k : ℕ) (L : Matrix) (v : Vector) (x y : Float) (a : Answer Float) → Way n (turned n k L v x y a)
-way-turned n k L v x y (refused j) = stopped j
-way-turned n k L v x y (answered d) = went _ _ (length-table n _) (shape-mat n n _)
+way-turned n k L v x y (Err j) = stopped j
+way-turned n k L v x y (Ok d) = went _ _ (length-table n _) (shape-mat n n _)
 
 way : (n k : ℕ) (L : Matrix) (v : Vector) → Way n (rotate n k L v)
 unfolding rotate
@@ -58,8 +57,8 @@ shaped-rotated n zero L v = none
 shaped-rotated n (suc k) L v = go (rotated n k L v).told (shaped-rotated n k L v)
   where
     go : (t : Answer Vector) {l : Left Matrix} → Shaped n l → Shaped n (onward L (record { told = t; left = l }) (rotate n k)).left
-    go (refused j) s = s
-    go (answered w) s = shaped-later s (shaped-way (way n k _ w))
+    go (Err j) s = s
+    go (Ok w) s = shaped-later s (shaped-way (way n k _ w))
 
 -- the used part of what stands in the rows l
 pub part-standing : (n : Size) (l : Rows) {a : Left Matrix} → Shaped (count n) a → part n n (standing pad l a) ≡ final (part n n l) a
@@ -77,24 +76,23 @@ pub record Turned (n : ℕ) (o : Outcome Matrix Vector) (l : Rows) (w : List Flo
   pub shape : Shape n n left
 
 module _ {n : ℕ} (l : Rows) (w : List Float) where
-  was_turned : {o : Outcome Matrix Vector} {r : Status} {l' : Rows} {w' : List Float} → Way n o → (r, (l', w')) ≡ rotated_rows l w o → r ≡ Done → Turned n o l' w'
-  was_turned (stopped k) e d = absurd (done_not_refused (sym d ∙ λ i. (e i).0))
+  was_turned : {o : Outcome Matrix Vector} {r : Answer (Unit {0})} {l' : Rows} {w' : List Float} → Way n o → (r, (l', w')) ≡ rotated_rows l w o → r ≡ Ok tt → Turned n o l' w'
+  was_turned (stopped k) e d = absurd (differ (sym (λ i. (e i).0) ∙ d))
   was_turned (went u L a h) e d = record { told = u; left = L; is = refl; factor = λ i. (e i).1.0; vector = λ i. (e i).1.1; size = a; shape = h }
 
-  was_stopped : {o : Outcome Matrix Vector} {r : Status} {k : ℕ} {l' : Rows} {w' : List Float} → Way n o → (r, (l', w')) ≡ rotated_rows l w o → r ≡ Refused k
-      → (o ≡ record { told = refused k; left = unchanged }) × (l' ≡ l)
+  was_stopped : {o : Outcome Matrix Vector} {r : Answer (Unit {0})} {k : Refusal} {l' : Rows} {w' : List Float} → Way n o → (r, (l', w')) ≡ rotated_rows l w o → r ≡ Err k
+      → (o ≡ record { told = Err k; left = unchanged }) × (l' ≡ l)
   was_stopped {k = k} (stopped j) e d =
-      let z : ◌≡◌ {A = Status} (Refused k) (Refused j) = sym d ∙ (λ i. (e i).0) in
-      let s : j ≡ k = cc in
-      ((λ i. record { told = refused (s i); left = unchanged }), λ i. (e i).1.0)
-  was_stopped (went u L a h) e d = absurd (done_not_refused (sym (λ i. (e i).0) ∙ d))
+      let s : j ≡ k = same-refusal (sym (λ i. (e i).0) ∙ d) in
+      ((λ i. record { told = Err (s i); left = unchanged }), λ i. (e i).1.0)
+  was_stopped (went u L a h) e d = absurd (differ (sym d ∙ λ i. (e i).0))
 
 -- ---- the loop over the columns has turned the first k of the rows l and the vector v: its invariant
 pub record Turning (n : Size) (l : Rows) (v : List Float) (k : ℕ) (l' : Rows) (w : List Float) : Type 0 where
   pub within : k ≤ count n
   pub told : Vector
   pub left : Left Matrix
-  pub so_far : rotated (count n) k (part n n l) (front n v) ≡ record { told = answered told; left = left }
+  pub so_far : rotated (count n) k (part n n l) (front n v) ≡ record { told = Ok told; left = left }
   pub factor : l' ≡ standing pad l left
   pub used : part n n l' ≡ final (part n n l) left
   pub vector : front n w ≡ told
@@ -118,8 +116,8 @@ module _ {n : Size} {l : Rows} {v : List Float} {k : ℕ} {l' : Rows} {w : List 
       ∙ (λ i. on (rotate (count n) k (sym t.used i) (sym t.vector i)))
       ∙ ap on q
 
-  module _ {r : Status} {l'' : Rows} {w'' : List Float} (e : (r, (l'', w'')) ≡ rotated_rows l' w turn) where
-    pub turning_more : r ≡ Done → Turning n l v (k + 1) l'' w''
+  module _ {r : Answer (Unit {0})} {l'' : Rows} {w'' : List Float} (e : (r, (l'', w'')) ≡ rotated_rows l' w turn) where
+    pub turning_more : r ≡ Ok tt → Turning n l v (k + 1) l'' w''
     turning_more d =
         let u = was_turned l' w (way (count n) k _ _) e d in
         record {
@@ -133,18 +131,18 @@ module _ {n : Size} {l : Rows} {v : List Float} {k : ℕ} {l' : Rows} {w : List 
         }
 
     -- a refusal stands
-    pub turning_refused : {j : ℕ} → r ≡ Refused j → (Refused j, l'') ≡ handed status_of pad l (rotated (count n) (count n) (part n n l) (front n v))
+    pub turning_refused : {j : Refusal} → r ≡ Err j → (Err j, l'') ≡ handed ended pad l (rotated (count n) (count n) (part n n l) (front n v))
     unfolding rotated
     turning_refused {j} d =
         let s = was_stopped l' w (way (count n) k _ _) e d in
-        let all : rotated (count n) (count n) (part n n l) (front n v) ≡ record { told = refused j; left = t.left } =
-        le_ind {n = k + 1} (λ m. rotated (count n) m (part n n l) (front n v) ≡ record { told = refused j; left = t.left }) (next s.0)
+        let all : rotated (count n) (count n) (part n n l) (front n v) ≡ record { told = Err j; left = t.left } =
+        le_ind {n = k + 1} (λ m. rotated (count n) m (part n n l) (front n v) ≡ record { told = Err j; left = t.left }) (next s.0)
         (λ m g p. ap (λ (o : Outcome Matrix Vector). onward (part n n l) o (rotate (count n) m)) p)
         (count n) (omega arith) in
-        (λ i. (Refused j, (s.1 ∙ t.factor) i)) ∙ sym (ap (handed status_of pad l) all)
+        (λ i. (Err j, (s.1 ∙ t.factor) i)) ∙ sym (ap (handed ended pad l) all)
 
 pub turning_all : {n : Size} {l : Rows} {v : List Float} {k : ℕ} {l' : Rows} {w : List Float} → Turning n l v k l' w → count n ≤ k
-    → (Done, l') ≡ handed status_of pad l (rotated (count n) (count n) (part n n l) (front n v))
+    → (Ok tt, l') ≡ handed ended pad l (rotated (count n) (count n) (part n n l) (front n v))
 turning_all {n} {l} {v} {k} t h =
     let same : count n ≡ k = omega arith in
-    (λ i. (Done, t.factor i)) ∙ sym (ap (handed status_of pad l) (ap (λ (j : ℕ). rotated (count n) j (part n n l) (front n v)) same ∙ t.so_far))
+    (λ i. (Ok tt, t.factor i)) ∙ sym (ap (handed ended pad l) (ap (λ (j : ℕ). rotated (count n) j (part n n l) (front n v)) same ∙ t.so_far))

@@ -3,3 +3,4 @@ pub mod Downdates
 pub mod Predictions
 pub mod Components
 pub mod Updates
+pub mod Maps

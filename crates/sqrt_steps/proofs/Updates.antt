@@ -1,78 +1,85 @@
 -- The update: the loop over the components of a measurement, each from what the one before it left. Assumes nothing.
 use mathlib.Core.Path.{◌≡◌, refl, sym, ap, ◌∙◌}
 use mathlib.Core.List.{List, [], ◌∷◌, ◌++◌}
-use Prim.Native.Nat.{ℕ, ◌+◌, ◌≤◌, ◌<◌}
+use Prim.Native.Nat.{ℕ, ◌+◌, ◌≤◌, ◌<◌, zero, suc}
 use native.Mathlib.Decide.{le_ind}
 use native.Mathlib.Numerals.{add-one}
 use native.Mathlib.Omega.{arith}
 use lib.ListN.{length, set, replicate, length-append}
 use lib.Ieee.{Float}
 use Rattle.scalar.specs.Number.{+0}
-use Rattle.answer.specs.declared.Status.TheVariants.{Done}
-use Rattle.answer.specs.Answer.{refused, answered, mapped}
+use Rattle.std.specs.Prelude.{Ok, Err}
+use Rattle.answer.specs.declared.Refusal.{Refusal}
+use Rattle.answer.specs.Answer.{Answer, mapped}
 use Rattle.answer.specs.Outcome.{Outcome, Left, unchanged, this, final, later, onward, standing, handed}
+use Rattle.answer.proofs.Answers.{differ, same_answer, same-refusal}
 use Rattle.answer.proofs.Tables.{set-pad_to}
 use Rattle.algebra.specs.Matrix.{Vector, at, row}
 use Rattle.algebra.specs.Array.{cut, used, pad_row}
 use Rattle.algebra.proofs.Arrays.{at_cut, row-used, cut-pad_row, used-pad, shape-used}
 use Rattle.sizes.specs.declared.Size.{Size}
-use Rattle.matrix.specs.declared.ScalarResult.{ScalarResult}
-use Rattle.matrix.specs.declared.ScalarResult.TheVariants as Scalar
-use Rattle.matrix.specs.declared.VectorResult.{VectorResult}
 use Rattle.sizes.specs.Size.{count, front, part}
-use Rattle.matrix.specs.Result.{vector_result, as_vector}
+use Rattle.matrix.specs.Result.{as_vector}
 use Rattle.filtering.specs.Filter.{Sensor}
 use Rattle.filtering.specs.SquareRoot.{Factored, factored, component, components, update}
 use Rattle.steps.specs.Step.{Rows}
 use Rattle.matrix.specs.Result.{as_one}
 use Rattle.sqrt_steps.specs.Step.{factored_rows, channel_rows, arrays_of}
-use Rattle.sqrt_steps.proofs.Components.{Way, stopped, failed, went, way, component-after}
+use Rattle.sqrt_steps.proofs.Components.{Way, stopped, failed, went, way, length-component, component-after}
 
 -- ---- what the call of a component says of it
 
--- a value is no refusal
-differ : {A : Type 0} {x : Float} {k : ℕ} → ◌≡◌ {A = ScalarResult} (Scalar.Value x) (Scalar.Refused k) → A
-differ e = let z : ◌≡◌ {A = ℕ} 0 1 = cc in absurd (omega arith)
-
 record Taken (n : Size) (o : Outcome Factored Vector) (b : Float) (x : List Float) (l : Rows) : Type 0 where
   left : Factored
-  is : o ≡ record { told = answered (b ∷ []); left = this left }
+  is : o ≡ record { told = Ok (b ∷ []); left = this left }
   arrays : (x, l) ≡ arrays_of left
   used : factored_rows n x l ≡ left
 
-record Stopped (o : Outcome Factored Vector) (j : ℕ) (a b : List Float × Rows) : Type 0 where
+record Stopped (o : Outcome Factored Vector) (j : Refusal) (a b : List Float × Rows) : Type 0 where
   left : Left Factored
-  is : o ≡ record { told = refused j; left = left }
+  is : o ≡ record { told = Err j; left = left }
   arrays : b ≡ standing arrays_of a left
 
 module _ (a : List Float × Rows) where
-  was_taken : {n : Size} {o : Outcome Factored Vector} {v : ScalarResult} {b : Float} {x : List Float} {l : Rows} → Way (count n) o → (v, (x, l)) ≡ handed as_one arrays_of a o
-      → v ≡ Scalar.Value b → Taken n o b x l
-  was_taken (stopped k) e d = differ (sym d ∙ λ i. (e i).0)
-  was_taken (failed k f s) e d = differ (sym d ∙ λ i. (e i).0)
+  was_taken : {n : Size} {o : Outcome Factored Vector} {v : Answer Float} {b : Float} {x : List Float} {l : Rows} → Way (count n) o → (v, (x, l)) ≡ handed as_one arrays_of a o
+      → v ≡ Ok b → Taken n o b x l
+  was_taken (stopped k) e d = absurd (differ (sym (λ i. (e i).0) ∙ d))
+  was_taken (failed k f s) e d = absurd (differ (sym (λ i. (e i).0) ∙ d))
   was_taken {n} {b = b} (went y f s) e d =
-      let p : Scalar.Value y ≡ Scalar.Value b = sym (λ i. (e i).0) ∙ d in
-      let q : y ≡ b = cc in
+      let q : y ≡ b = same_answer (sym (λ i. (e i).0) ∙ d) in
       record {
         left = f;
-        is = λ i. record { told = answered (q i ∷ []); left = this f };
+        is = λ i. record { told = Ok (q i ∷ []); left = this f };
         arrays = λ i. (e i).1;
         used =
             (λ i. factored (front n (e i).1.0) (part n n (e i).1.1))
             ∙ λ i. factored (cut-pad_row (count n) f.state s.state i) (used-pad (count n) (count n) f.factor s.factor i);
       }
 
-  was_stopped : {n : ℕ} {o : Outcome Factored Vector} {v : ScalarResult} {j : ℕ} {w : List Float × Rows} → Way n o → (v, w) ≡ handed as_one arrays_of a o
-      → v ≡ Scalar.Refused j → Stopped o j a w
+  was_stopped : {n : ℕ} {o : Outcome Factored Vector} {v : Answer Float} {j : Refusal} {w : List Float × Rows} → Way n o → (v, w) ≡ handed as_one arrays_of a o
+      → v ≡ Err j → Stopped o j a w
   was_stopped {j = j} (stopped k) e d =
-      let p : Scalar.Refused k ≡ Scalar.Refused j = sym (λ i. (e i).0) ∙ d in
-      let q : k ≡ j = cc in
-      record { left = unchanged; is = λ i. record { told = refused (q i); left = unchanged }; arrays = λ i. (e i).1 }
+      let q : k ≡ j = same-refusal (sym (λ i. (e i).0) ∙ d) in
+      record { left = unchanged; is = λ i. record { told = Err (q i); left = unchanged }; arrays = λ i. (e i).1 }
   was_stopped {j = j} (failed k f s) e d =
-      let p : Scalar.Refused k ≡ Scalar.Refused j = sym (λ i. (e i).0) ∙ d in
-      let q : k ≡ j = cc in
-      record { left = this f; is = λ i. record { told = refused (q i); left = this f }; arrays = λ i. (e i).1 }
-  was_stopped (went y f s) e d = differ (sym (λ i. (e i).0) ∙ d)
+      let q : k ≡ j = same-refusal (sym (λ i. (e i).0) ∙ d) in
+      record { left = this f; is = λ i. record { told = Err (q i); left = this f }; arrays = λ i. (e i).1 }
+  was_stopped (went y f s) e d = absurd (differ (sym d ∙ λ i. (e i).0))
+
+-- an update that is answered tells an innovation for each measurement
+length-components : (Y : Sensor Vector) (z : Vector) (f : Factored) (k : ℕ) {v : Vector} → (components Y k z f).told ≡ Ok v → length v ≡ k
+unfolding components
+length-components Y z f zero q = ap length (sym (same_answer q))
+length-components Y z f (suc k) {v} q = go (components Y k z f).told (components Y k z f).left (λ u. length-components Y z f k) q
+  where
+    go : (t : Answer Vector) (l : Left Factored) → ((u : Vector) → t ≡ Ok u → length u ≡ k)
+        → (onward f (record { told = t; left = l }) (component Y.n (row Y.h k) (at Y.r k) (at z k))).told ≡ Ok v → length v ≡ suc k
+    go (Err j) l h q = absurd (differ q)
+    go (Ok u) l h q = length-component Y.n (row Y.h k) (at Y.r k) (at z k) _ u q ∙ ap (λ (j : ℕ). j + 1) (h u refl) ∙ add-one k
+
+pub told-length : (Y : Sensor Vector) (z : Vector) (f : Factored) (y : Vector) → (update Y z f).told ≡ Ok y → length y ≡ Y.m
+unfolding update
+told-length Y z f y q = length-components Y z f Y.m q
 
 -- what two steps leave in the arrays
 standing-later : (a : List Float × Rows) (l m : Left Factored) → standing arrays_of (standing arrays_of a l) m ≡ standing arrays_of a (later l m)
@@ -88,7 +95,7 @@ pub record Taking (n : Size) (m : ℕ) (h : Rows) (r z x : List Float) (l : Rows
   pub within : i ≤ m
   pub told : Vector
   pub left : Left Factored
-  pub so_far : components (channel n m h r) i (cut m z) (factored_rows n x l) ≡ record { told = answered told; left = left }
+  pub so_far : components (channel n m h r) i (cut m z) (factored_rows n x l) ≡ record { told = Ok told; left = left }
   pub arrays : (x', l') ≡ standing arrays_of (x, l) left
   pub used : factored_rows n x' l' ≡ final (factored_rows n x l) left
   pub innovations : y ≡ pad_row told
@@ -129,8 +136,8 @@ module _ {n : Size} {m : ℕ} {h : Rows} {r z x : List Float} {l : Rows} {i : �
       ∙ ap from (component-after N (front n (row h i)) (at r i) (at z i) (factored_rows n x' l') t.told)
       ∙ ap on q
 
-  module _ {v : ScalarResult} {x'' : List Float} {l'' : Rows} (e : (v, (x'', l'')) ≡ handed as_one arrays_of (x', l') step) where
-    pub taking_more : {b : Float} → v ≡ Scalar.Value b → Taking n m h r z x l (i + 1) x'' l'' (set y i b)
+  module _ {v : Answer Float} {x'' : List Float} {l'' : Rows} (e : (v, (x'', l'')) ≡ handed as_one arrays_of (x', l') step) where
+    pub taking_more : {b : Float} → v ≡ Ok b → Taking n m h r z x l (i + 1) x'' l'' (set y i b)
     taking_more {b} d =
         let u = was_taken (x', l') {n = n} ways e d in
         let four : length t.told < 4 = omega (arith, t.size) in
@@ -148,30 +155,30 @@ module _ {n : Size} {m : ℕ} {h : Rows} {r z x : List Float} {l : Rows} {i : �
         }
 
     -- a refusal stands
-    pub taking_refused : {j : ℕ} {w : VectorResult} → v ≡ Scalar.Refused j → w ≡ as_vector (refused j)
-        → (w, (x'', l'')) ≡ handed as_vector arrays_of (x, l) (update (channel n m h r) (cut m z) F)
+    pub taking_refused : {j : Refusal} → v ≡ Err j
+        → (Err j, (x'', l'')) ≡ handed as_vector arrays_of (x, l) (update (channel n m h r) (cut m z) F)
     unfolding components update
-    taking_refused {j} d ew =
+    taking_refused {j} d =
         let s = was_stopped (x', l') ways e d in
-        let end : Outcome Factored Vector = record { told = refused j; left = later t.left s.left } in
+        let end : Outcome Factored Vector = record { told = Err j; left = later t.left s.left } in
         let all : first m ≡ end =
         le_ind {n = i + 1} (λ k. first k ≡ end) (next s.is)
         (λ k f p. ap (λ (o : Outcome Factored Vector). onward F o (component N (row (used m N h) k) (at (cut m r) k) (at (cut m z) k))) p)
         m (omega arith) in
-        (λ k. (ew k, (s.arrays ∙ (λ q. standing arrays_of (t.arrays q) s.left) ∙ standing-later (x, l) t.left s.left) k))
+        (λ k. (Err j, (s.arrays ∙ (λ q. standing arrays_of (t.arrays q) s.left) ∙ standing-later (x, l) t.left s.left) k))
         ∙ sym (ap (handed as_vector arrays_of (x, l)) all)
 
-pub taking_all : {n : Size} {m : ℕ} {h : Rows} {r z x : List Float} {l : Rows} {i : ℕ} {x' : List Float} {l' : Rows} {y : List Float} {w : VectorResult}
-    → Taking n m h r z x l i x' l' y → m ≤ i → w ≡ vector_result Done y
-    → (w, (x', l')) ≡ handed as_vector arrays_of (x, l) (update (channel n m h r) (cut m z) (factored_rows n x l))
+pub taking_all : {n : Size} {m : ℕ} {h : Rows} {r z x : List Float} {l : Rows} {i : ℕ} {x' : List Float} {l' : Rows} {y : List Float}
+    → Taking n m h r z x l i x' l' y → m ≤ i
+    → (Ok y, (x', l')) ≡ handed as_vector arrays_of (x, l) (update (channel n m h r) (cut m z) (factored_rows n x l))
 unfolding update
-taking_all {n} {m} {h} {r} {z} {x} {l} {i} t g ew =
+taking_all {n} {m} {h} {r} {z} {x} {l} {i} t g =
     let same : m ≡ i = omega (arith, t.within) in
-    (λ k. ((ew ∙ ap (vector_result Done) t.innovations) k, t.arrays k))
+    (λ k. (Ok (t.innovations k), t.arrays k))
     ∙ sym (ap (handed as_vector arrays_of (x, l)) (ap (λ (k : ℕ). components (channel n m h r) k (cut m z) (factored_rows n x l)) same ∙ t.so_far))
 
 -- m is the number of a size
-pub by_size : (n m : Size) (h : Rows) (r z x : List Float) (l : Rows) {k : ℕ} {y : VectorResult × (List Float × Rows)} → k ≡ count m
+pub by_size : (n m : Size) (h : Rows) (r z x : List Float) (l : Rows) {k : ℕ} {y : Answer (List Float) × (List Float × Rows)} → k ≡ count m
     → y ≡ handed as_vector arrays_of (x, l) (update (channel n k h r) (cut k z) (factored_rows n x l))
     → y ≡ handed as_vector arrays_of (x, l) (update (channel_rows n m h r) (front m z) (factored_rows n x l))
 by_size n m h r z x l e q = q ∙ ap (λ (k : ℕ). handed as_vector arrays_of (x, l) (update (channel n k h r) (cut k z) (factored_rows n x l))) e

@@ -1,9 +1,7 @@
 -- A step of the square-root filter on arrays of four rows of four: what they hold, and how its outcome is handed over in them. Definitions only.
-use Rattle.std.specs.Prelude.{ℕ, cond, List, eqb, ltb, Float}
-use Rattle.answer.specs.declared.Status.{Status}
-use Rattle.answer.specs.Answer.{Answer, refused, answered}
+use Rattle.std.specs.Prelude.{ℕ, cond, List, eqb, ltb, Ok, Err, Float}
+use Rattle.answer.specs.Answer.{Answer, mapped}
 use Rattle.answer.specs.Outcome.{Outcome, standing}
-use Rattle.answer.specs.Told.{status_of}
 use Rattle.answer.specs.Table.{table}
 use Rattle.scalar.specs.Number.{◌⊖◌, ◌⊗◌, ◌⊘◌}
 use Rattle.algebra.specs.Matrix.{Vector, Matrix, at, cell, mat}
@@ -31,14 +29,18 @@ channel_rows n m h r = record { n = count n; m = count m; h = part m n h; r = fr
 abbrev pub factored_rows : Size → List Float → Rows → Factored
 factored_rows n x l = factored (front n x) (part n n l)
 
+-- ---- what is told where no number goes with it: that it is done, or the refusal
+abbrev pub ended : {A : Type 0} → Answer A → Answer (Unit {0})
+ended a = mapped (λ x. tt) a
+
 -- ---- an outcome in the arrays x and l, where it leaves a state and a factor
 abbrev pub arrays_of : Factored → List Float × Rows
 arrays_of f = (pad_row f.state, pad f.factor)
 
 -- a column's: the vector that is told stands in the place of v
 abbrev pub told_in : List Float → Answer Vector → List Float
-told_in v (refused k) = v
-told_in v (answered w) = pad_row w
+told_in v (Err k) = v
+told_in v (Ok w) = pad_row w
 
-abbrev pub rotated_rows : Rows → List Float → Outcome Matrix Vector → Status × (Rows × List Float)
-rotated_rows l v o = (status_of o.told, (standing pad l o.left, told_in v o.told))
+abbrev pub rotated_rows : Rows → List Float → Outcome Matrix Vector → Answer (Unit {0}) × (Rows × List Float)
+rotated_rows l v o = (ended o.told, (standing pad l o.left, told_in v o.told))

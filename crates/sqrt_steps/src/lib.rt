@@ -4,36 +4,33 @@
 
 ghost use Rattle.std.specs.Prelude.{◌≡◌, [], ◌<◌};
 ghost use Rattle.answer.specs.Outcome.{handed};
-ghost use Rattle.answer.specs.Told.{status_of};
 ghost use Rattle.algebra.specs.Array.{pad};
 ghost use Rattle.sizes.specs.Size.{count, front, part};
-ghost use Rattle.matrix.specs.Result.{as_scalar, as_vector};
 ghost use Rattle.filtering.specs.SquareRoot.{turned_diagonal, rotate as rotate_of, rotated, variance as variance_of, vec_over};
 ghost use Rattle.filtering.specs.SquareRoot.{covariance as covariance_of, predict as predict_of, component as component_of, update as update_of};
 ghost use Rattle.steps.specs.Step.{motion_rows};
-ghost use Rattle.matrix.specs.Result.{as_one};
-ghost use Rattle.sqrt_steps.specs.Step.{turned_column, turned_vector, with_column, rotated_rows, factored_rows, channel_rows, arrays_of};
+ghost use Rattle.matrix.specs.Result.{as_one, as_vector};
+ghost use Rattle.sqrt_steps.specs.Step.{turned_column, turned_vector, with_column, rotated_rows, factored_rows, channel_rows, ended, arrays_of};
 
-use answer::Status;
-use matrix::{ScalarResult, VectorResult};
+use answer::Refusal;
 use rows::pick;
 use scalar::ControlScalar;
-use sizes::{Size, number};
+use sizes::Size;
 
 // ---- the downdate of l by v, column by column
 
 // The root of a turned diagonal's square d. At or below zero it is refused with 4; a NaN passes.
-pub fn turned_diagonal(d: f64) -> ScalarResult
-    ensures { result ≡ as_scalar (turned_diagonal d) }
+pub fn turned_diagonal(d: f64) -> Result<f64, Refusal>
+    ensures { result ≡ turned_diagonal d }
 {
     if d <= 0.0 {
-        ScalarResult::Refused(4)
+        Err(Refusal::NotPositiveDefinite)
     } else {
-        ScalarResult::Value(ControlScalar::sqrt(d))
+        Ok(ControlScalar::sqrt(d))
     }
 }
 
-// Column k turned with v: d on its diagonal, and the cells below it.
+// Column k turned with v: d on its diagonal, and the cells below it. Written out by choices, so that a compiler makes no jump.
 fn turned_column(column: [f64; 4], v: [f64; 4], k: usize, d: f64, c: f64, s: f64) -> [f64; 4]
     ensures { result ≡ turned_column k d c s column v }
 {
@@ -78,52 +75,46 @@ fn with_column(l: &[[f64; 4]; 4], k: usize, column: [f64; 4]) -> [[f64; 4]; 4]
 }
 
 // Column k of the n × n part of l, turned with v. Refused with 4: the diagonal.
-fn rotate(l: &mut [[f64; 4]; 4], v: &mut [f64; 4], k: usize, n: Size) -> Status
+#[tactic(auto, using(crate::proofs::Columns::at_most_four))]
+fn rotate(l: &mut [[f64; 4]; 4], v: &mut [f64; 4], k: usize, n: Size) -> Result<(), Refusal>
     requires { k < count n }
     ensures { (result, (l.new, v.new))
         ≡ rotated_rows l.old v.old (rotate_of (count n) k (part n n l.old) (front n v.old)) }
 {
     let diagonal = l[k][k];
     let vk = v[k];
-    match turned_diagonal(diagonal * diagonal - vk * vk) {
-        ScalarResult::Value(d) => {
-            let c = d / diagonal;
-            let s = vk / diagonal;
-            let column = [l[0][k], l[1][k], l[2][k], l[3][k]];
-            let turned = with_column(l, k, turned_column(column, *v, k, d, c, s));
-            *l = rows::used_part(&turned, n, n);
-            *v = rows::leading(turned_vector(column, *v, k, c, s), n);
-            Status::Done
-        }
-        ScalarResult::Refused(number) => Status::Refused(number),
-    }
+    let d = turned_diagonal(diagonal * diagonal - vk * vk)?;
+    let c = d / diagonal;
+    let s = vk / diagonal;
+    let column = [l[0][k], l[1][k], l[2][k], l[3][k]];
+    let turned = with_column(l, k, turned_column(column, *v, k, d, c, s));
+    *l = rows::used_part(&turned, n, n);
+    *v = rows::leading(turned_vector(column, *v, k, c, s), n);
+    Ok(())
 }
 
 // All columns. Refused with 4: a column's diagonal; the columns before it are turned.
-pub fn downdate(l: &mut [[f64; 4]; 4], v: [f64; 4], n: Size) -> Status
-    ensures { (result, l.new) ≡ handed status_of pad l.old (rotated (count n) (count n) (part n n l.old) (front n v)) }
+pub fn downdate(l: &mut [[f64; 4]; 4], v: [f64; 4], n: Size) -> Result<(), Refusal>
+    ensures { (result, l.new) ≡ handed ended pad l.old (rotated (count n) (count n) (part n n l.old) (front n v)) }
 {
-    let columns = number(n);
+    let columns = usize::from(n);
     let mut w = v;
     for k in 0..columns {
-        match rotate(l, &mut w, k, n) {
-            Status::Done => {}
-            Status::Refused(number) => return Status::Refused(number),
-        }
+        rotate(l, &mut w, k, n)?;
     }
-    Status::Done
+    Ok(())
 }
 
 // ---- one component of a measurement
 
 // A variance. At or below zero it is refused with 3; a NaN passes.
-pub fn variance(s: f64) -> ScalarResult
-    ensures { result ≡ as_scalar (variance_of s) }
+pub fn variance(s: f64) -> Result<f64, Refusal>
+    ensures { result ≡ variance_of s }
 {
     if s <= 0.0 {
-        ScalarResult::Refused(3)
+        Err(Refusal::SingularMatrix)
     } else {
-        ScalarResult::Value(s)
+        Ok(s)
     }
 }
 
@@ -144,28 +135,22 @@ pub fn component<'a>(
     n: Size,
     x: &mut [f64; 4],
     l: &mut [[f64; 4]; 4],
-) -> ScalarResult
+) -> Result<f64, Refusal>
     ensures { (result, (x.new, l.new))
         ≡ handed as_one arrays_of (x.old, l.old)
         (component_of (count n) (front n h.now) r z (factored_rows n x.old l.old) []) }
 {
-    let k = number(n);
+    let k = usize::from(n);
     let y = z - kernel::dot(h, x, k);
     let t = rows::row_product(*h, l, n);
     let tt = kernel::dot(&t, &t, k);
-    match variance(tt + r * r) {
-        ScalarResult::Value(s) => {
-            let g = kernel::product_vector(l, &t, n, n);
-            *x = kernel::vector_sum(*x, rows::row_scaled(over(g, s), y), n);
-            let status = downdate(l, over(g, ControlScalar::sqrt(s)), n);
-            *l = rows::used_part(l, n, n);
-            match status {
-                Status::Done => ScalarResult::Value(y),
-                Status::Refused(number) => ScalarResult::Refused(number),
-            }
-        }
-        ScalarResult::Refused(number) => ScalarResult::Refused(number),
-    }
+    let s = variance(tt + r * r)?;
+    let g = kernel::product_vector(l, &t, n, n);
+    *x = kernel::vector_sum(*x, rows::row_scaled(over(g, s), y), n);
+    let turned = downdate(l, over(g, ControlScalar::sqrt(s)), n);
+    *l = rows::used_part(l, n, n);
+    turned?;
+    Ok(y)
 }
 
 // ---- the filter
@@ -192,25 +177,23 @@ pub fn predict<'a>(
     i: Size,
     x: &mut [f64; 4],
     l: &mut [[f64; 4]; 4],
-) -> Status
+) -> Result<(), Refusal>
     ensures { (result, (x.new, l.new))
-        ≡ handed status_of arrays_of (x.old, l.old)
+        ≡ handed (λ t. t) arrays_of (x.old, l.old)
         (predict_of (motion_rows n i a.now b.now q.now) (front i u.now)
         (factored_rows n x.old l.old)) }
 {
     let p = covariance(l, n);
     *x = steps::predicted_state(a, b, x, u, n, i);
     let s = steps::propagated(a, &p, q, n, n);
-    let f = cholesky::factor_of(&s, n);
-    let status = f.status;
-    match status {
-        Status::Done => {
-            *l = matrix::rows_of(f);
-            Status::Done
+    match cholesky::factor_of(&s, n) {
+        Ok(f) => {
+            *l = f;
+            Ok(())
         }
-        Status::Refused(number) => {
+        Err(refusal) => {
             *l = rows::used_part(l, n, n);
-            Status::Refused(number)
+            Err(refusal)
         }
     }
 }
@@ -225,20 +208,17 @@ pub fn update<'a>(
     m: Size,
     x: &mut [f64; 4],
     l: &mut [[f64; 4]; 4],
-) -> VectorResult
+) -> Result<[f64; 4], Refusal>
     ensures { (result, (x.new, l.new))
         ≡ handed as_vector arrays_of (x.old, l.old)
         (update_of (channel_rows n m h.now r.now) (front m z.now) (factored_rows n x.old l.old)) }
 {
-    let components = number(m);
+    let components = usize::from(m);
     let mut y = [0.0; 4];
+    // The index goes into h, r, z and y.
     for i in 0..components {
-        match component(&h[i], r[i], z[i], n, x, l) {
-            ScalarResult::Value(e) => {
-                y[i] = e;
-            }
-            ScalarResult::Refused(number) => return matrix::vector_refused(number),
-        }
+        let e = component(&h[i], r[i], z[i], n, x, l)?;
+        y[i] = e;
     }
-    matrix::vector_result(Status::Done, y)
+    Ok(y)
 }

@@ -17,37 +17,21 @@ use Rattle.mixing.specs.Mixing.{fused_estimate}
 use Rattle.layout.specs.Layout.{model_length}
 use Rattle.steps.proofs.Sizes.{well_sized_lem}
 use Rattle.c_bank.specs.Bank.{is_bank_with, bank_at}
-use Rattle.c_bank.proofs.Banks.{Whole, whole_of}
+use Rattle.c_bank.proofs.Banks.{whole_of}
 use Rattle.c_bank.proofs.Steps.{fuses}
-use Rattle.c_bank.proofs.imm_fused_estimate.Lts as lts
-use Rattle.c_bank.proofs.imm_fused_estimate.Tie as tie
-use Rattle.c_bank.proofs.imm_fused_estimate.Reads as reads
 use Rattle.c_bank.proofs.imm_fused_estimate.Goals as goal
-
-abbrev After-size_of-sk : Type 0
-After-size_of-sk = lts.After-size_of2 tie.the-claims reads.Pre reads.Post
-
-abbrev Then-is_bank : Type 0
-Then-is_bank = lts.Then1 tie.the-claims reads.Pre reads.Post
-
-test : (c : Then-is_bank) → let a = c.args in Whole a.n a.m a.k (length a.bank.now)
-test c = whole_of _ _ _ _ (sym c.is_bank.ensures ∙ c.if-is_bank.true)
 
 -- by the tests of the sizes
 abbrev by : ℕ → ℕ → ℕ → List Float → List Float → Bool → ℕ × List Float
 by n m k b o t = given o (where_sized t (fused_estimate n k (bank_at n m k b)))
 
--- the states and the probabilities lie within the slice
-models : (c : After-size_of-sk) → count c.size_of-sk.result ≡ c.args.k
-models c = is_count (well_sized_lem _ _ _ (test c.before.before.before).sizes).inputs c.size_of-sk.ensures
-
 pub returns-then-out-n : goal.returns-then-out-n
 unfolding is_bank_with
 returns-then-out-n c =
     let a = c.args in
-    let z = well_sized_lem _ _ _ (test c.before.before.before.before.before.before.before.before.before.before.before.before.before.before).sizes in
+    let z = well_sized_lem _ _ _ (whole_of _ _ _ _ (sym c.is_bank.ensures ∙ c.if-is_bank.true)).sizes in
     let e = sym c.is_bank.ensures ∙ c.if-is_bank.true in
-    let is = fuses a.n a.m a.k a.bank.now (test c.before.before.before.before.before.before.before.before.before.before.before.before.before.before) c.size_of-sn.result c.size_of-sk.result (is_count z.states c.size_of-sn.ensures) (is_count z.inputs c.size_of-sk.ensures)
+    let is = fuses a.n a.m a.k a.bank.now (whole_of _ _ _ _ (sym c.is_bank.ensures ∙ c.if-is_bank.true)) c.size_of-sn.result c.size_of-sk.result (is_count z.states c.size_of-sn.ensures) (is_count z.inputs c.size_of-sk.ensures)
     c.probabilities_place.ensures.0 a.out.now c.model_length.ensures.0 c.rows_at-x.ensures c.numbers_at-mu.ensures c.weighted-fused.ensures c.if-out-n.true c.put_row.ensures in
     (λ j. (0, is j)) ∙ ap (by a.n a.m a.k a.bank.now a.out.now) (sym (λ i. e i && eq-eqb (length a.out.now) a.n c.if-out-n.true i))
 
@@ -67,30 +51,30 @@ returns-else-is_bank c =
 
 pub rows_at-x-requires : goal.rows_at-x-requires
 rows_at-x-requires c =
-    let w = test c.before.before.before.before.before in
+    let w = (whole_of _ _ _ _ (sym c.is_bank.ensures ∙ c.if-is_bank.true)) in
     let a = c.args in
     let z = well_sized_lem _ _ _ w.sizes in
     let N = (bounds_of a.n z.states).least in
     let K = (bounds_of a.k z.inputs).least in
-    let all : count c.size_of-sk.result * c.model_length.result ≡ a.k * model_length a.n = ap₂ (λ (i j : ℕ). i * j) (models c.before.before) c.model_length.ensures.0 in
+    let all : count c.size_of-sk.result * c.model_length.result ≡ a.k * model_length a.n = ap₂ (λ (i j : ℕ). i * j) (is_count (well_sized_lem _ _ _ (whole_of _ _ _ _ (sym c.is_bank.ensures ∙ c.if-is_bank.true)).sizes).inputs c.size_of-sk.ensures) c.model_length.ensures.0 in
     ((omega (arith, w.few), c.model_length.ensures.1), omega (arith, all, w.long, c.model_length.ensures.0, N, K, mul-pos N N))
 
 pub numbers_at-mu-requires : goal.numbers_at-mu-requires
 numbers_at-mu-requires c =
-    let w = test c.before.before.before.before.before.before.before in
-    ((c.probabilities_place.ensures.1, omega arith), omega (arith, models c.before.before.before.before, w.long, c.probabilities_place.ensures.0))
+    let w = (whole_of _ _ _ _ (sym c.is_bank.ensures ∙ c.if-is_bank.true)) in
+    ((c.probabilities_place.ensures.1, omega arith), omega (arith, (is_count (well_sized_lem _ _ _ (whole_of _ _ _ _ (sym c.is_bank.ensures ∙ c.if-is_bank.true)).sizes).inputs c.size_of-sk.ensures), w.long, c.probabilities_place.ensures.0))
 
 -- and there is room for the fused state
 pub put_row-requires : goal.put_row-requires
 put_row-requires c =
-    let states = is_count (well_sized_lem _ _ _ (test c.before.before.before.before.before.before.before.before.before.before.before).sizes).states c.size_of-sn.ensures in
+    let states = is_count (well_sized_lem _ _ _ (whole_of _ _ _ _ (sym c.is_bank.ensures ∙ c.if-is_bank.true)).sizes).states c.size_of-sn.ensures in
     (omega arith, omega (arith, states, c.if-out-n.true))
 
 pub overflow_mul-n : goal.overflow_mul-n
-overflow_mul-n c = omega (arith, (test c.before.before.before.before).few)
+overflow_mul-n c = omega (arith, (whole_of _ _ _ _ (sym c.is_bank.ensures ∙ c.if-is_bank.true)).few)
 
 pub model_length-requires : goal.model_length-requires
-model_length-requires c = (test c.before.before.before.before).few.states
+model_length-requires c = (whole_of _ _ _ _ (sym c.is_bank.ensures ∙ c.if-is_bank.true)).few.states
 
 pub probabilities_place-requires : goal.probabilities_place-requires
-probabilities_place-requires c = (test c.before.before.before.before.before.before).sizes
+probabilities_place-requires c = (whole_of _ _ _ _ (sym c.is_bank.ensures ∙ c.if-is_bank.true)).sizes

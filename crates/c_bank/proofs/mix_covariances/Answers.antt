@@ -1,5 +1,5 @@
 -- `mix_covariances` meets its contract: a turn mixes one row of every covariance.
-use Prim.Native.Nat.{ℕ, ◌-◌, ◌≤◌, ◌<◌, ◌+◌, ◌*◌}
+use Prim.Native.Nat.{ℕ, ◌≤◌, ◌<◌, ◌+◌, ◌*◌}
 use native.Mathlib.Nat.{mul-le-mul}
 use native.Mathlib.Omega.{arith}
 use mathlib.Core.Path.{◌≡◌, ap, ap₂, ◌∙◌, subst}
@@ -14,7 +14,7 @@ use Rattle.c_bank.proofs.mix_covariances.Goals as goal
 
 pub loop-r-init : goal.loop-r-init
 loop-r-init c =
-    ((c.number-states.ensures, c.model_length-step.ensures.0 ∙ ap model_length c.number-states.ensures), rowing_none _ _ _ _ _ _ c.requires)
+    ((c.from-states.ensures, c.model_length-step.ensures.0 ∙ ap model_length c.from-states.ensures), rowing_none _ _ _ _ _ _ c.requires)
 
 pub loop-r-preserved : goal.loop-r-preserved
 loop-r-preserved c =
@@ -40,26 +40,26 @@ mix_row-requires c =
     let a = c.args in
     let r = c.loop-r.r in
     let h : r < count a.n = subst (λ (c : ℕ). r < c) v.0.0 c.loop-r-test.true in
-    let small : c.number-states.result ≤ 4 = omega (arith, v.0.0, bounds a.n) in
+    let small : c.from-states.result ≤ 4 = omega (arith, v.0.0, bounds a.n) in
     let few : r ≤ 4 = omega (arith, c.loop-r-test.true) in
     let place = ap (λ (n : ℕ). n * n + n + r * n) v.0.0 in
     let all = ap (λ (z : ℕ). count a.k * z) v.0.1 in
     (omega (arith, h, bounds a.n), ((omega (arith, mul-le-mul small small, mul-le-mul few small), c.model_length-step.ensures.1), omega (arith, rowing_room _ _ _ _ _ _ v.1 h (bounds a.n).least, place, all, v.0.1)))
 
 pub model_length-step-requires : goal.model_length-step-requires
-model_length-step-requires c = omega (arith, c.number-states.ensures, bounds c.args.n)
+model_length-step-requires c = omega (arith, c.from-states.ensures, bounds c.args.n)
 
 pub overflow_mul-states : goal.overflow_mul-states
-overflow_mul-states c = let h : c.number-states.result ≤ 4 = omega (arith, c.number-states.ensures, bounds c.args.n) in omega (arith, mul-le-mul h h)
+overflow_mul-states c = let h : c.from-states.result ≤ 4 = omega (arith, c.from-states.ensures, bounds c.args.n) in omega (arith, mul-le-mul h h)
 
 pub overflow_add-states : goal.overflow_add-states
-overflow_add-states c = let h : c.number-states.result ≤ 4 = omega (arith, c.number-states.ensures, bounds c.args.n) in omega (arith, mul-le-mul h h)
+overflow_add-states c = let h : c.from-states.result ≤ 4 = omega (arith, c.from-states.ensures, bounds c.args.n) in omega (arith, mul-le-mul h h)
 
 pub overflow_mul-r : goal.overflow_mul-r
-overflow_mul-r c = let h : c.number-states.result ≤ 4 = omega (arith, c.number-states.ensures, bounds c.args.n) in let g : c.loop-r.r ≤ 4 = omega arith in omega (arith, mul-le-mul g h)
+overflow_mul-r c = let h : c.from-states.result ≤ 4 = omega (arith, c.from-states.ensures, bounds c.args.n) in let g : c.loop-r.r ≤ 4 = omega arith in omega (arith, mul-le-mul g h)
 
 pub overflow_add-states-in-loop-r : goal.overflow_add-states-in-loop-r
-overflow_add-states-in-loop-r c = let h : c.number-states.result ≤ 4 = omega (arith, c.number-states.ensures, bounds c.args.n) in let g : c.loop-r.r ≤ 4 = omega arith in omega (arith, mul-le-mul h h, mul-le-mul g h)
+overflow_add-states-in-loop-r c = let h : c.from-states.result ≤ 4 = omega (arith, c.from-states.ensures, bounds c.args.n) in let g : c.loop-r.r ≤ 4 = omega arith in omega (arith, mul-le-mul h h, mul-le-mul g h)
 
 pub shape_of-bank : goal.shape_of-bank
 shape_of-bank c = omega (arith, c.loop-r.invariant.1.long)

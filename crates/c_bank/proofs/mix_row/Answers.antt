@@ -1,29 +1,19 @@
 -- `mix_row` meets its contract: two models are mixed as a pair; otherwise a turn mixes one model's row from the rows of all, which were read before.
-use Prim.Native.Nat.{ℕ, ◌-◌, ◌≤◌, ◌+◌, ◌*◌}
+use Prim.Native.Nat.{ℕ, ◌≤◌, ◌+◌, ◌*◌}
 use native.Mathlib.Omega.{arith}
-use mathlib.Core.Path.{◌≡◌, sym, ap, ◌∙◌, subst}
+use mathlib.Core.Path.{sym, ap, ◌∙◌, subst}
 use lib.ListN.{length}
 use Rattle.sizes.specs.Size.{count}
 use Rattle.sizes.proofs.Sizes.{bounds}
 use Rattle.c_bank.specs.Bank.{series, mixed_row_in}
 use Rattle.c_bank.proofs.Serials.{serial_none, serial_room, serial_place, serial_more, serial_all}
 use Rattle.c_bank.proofs.Rowing.{row_is, length-mixed}
-use Rattle.c_bank.proofs.mix_row.Lts as lts
-use Rattle.c_bank.proofs.mix_row.Tie as tie
-use Rattle.c_bank.proofs.mix_row.Reads as reads
 use Rattle.c_bank.proofs.mix_row.Goals as goal
-
-abbrev Then-models-eq2 : Type 0
-Then-models-eq2 = lts.Then1 tie.the-claims reads.Pre reads.Post goal.the-invariant-loop-j goal.the-decreases-loop-j
-
--- two models
-two : (c : Then-models-eq2) → count c.args.k ≡ 2
-two c = sym c.number-models.ensures ∙ c.if-models-eq2.true
 
 pub loop-j-init : goal.loop-j-init
 loop-j-init c =
     let a = c.args in
-    let e = c.number-models.ensures in (
+    let e = c.from-models.ensures in (
       c.requires.0,
       serial_none _ _ _ _ _ (omega (arith, e, bounds a.k)) c.requires.1.0.0 c.requires.1.0.1
           (subst (λ (k : ℕ). a.q + k * a.step + 4 ≤ length a.bank.now + a.step) (sym e) c.requires.1.1) (λ j. omega (arith, length-mixed (count a.n) (count a.k) a.step a.x.now a.m.now a.w.now a.bank.now a.q a.r j, bounds a.n)),
@@ -41,15 +31,15 @@ loop-j-preserved c =
 pub mix_pair-requires : goal.mix_pair-requires
 mix_pair-requires c =
     let a = c.args in
-    (c.requires.0, (c.requires.1.0, subst (λ (k : ℕ). a.q + k * a.step + 4 ≤ length a.bank.now + a.step) (two c.before) c.requires.1.1))
+    (c.requires.0, (c.requires.1.0, subst (λ (k : ℕ). a.q + k * a.step + 4 ≤ length a.bank.now + a.step) (sym c.from-models.ensures ∙ c.if-models-eq2.true) c.requires.1.1))
 
 pub returns-then-models-eq2 : goal.returns-then-models-eq2
 returns-then-models-eq2 c =
     let a = c.args in
-    c.mix_pair.ensures ∙ ap (λ (k : ℕ). series k a.q a.step (mixed_row_in (count a.n) k a.step a.x.now a.m.now a.w.now a.bank.now a.q a.r) a.bank.now) (sym (two c.before.before.before.before.before))
+    c.mix_pair.ensures ∙ ap (λ (k : ℕ). series k a.q a.step (mixed_row_in (count a.n) k a.step a.x.now a.m.now a.w.now a.bank.now a.q a.r) a.bank.now) (sym (sym c.from-models.ensures ∙ c.if-models-eq2.true))
 
 pub returns : goal.returns
-returns c = serial_all c.loop-j.invariant.1 (omega arith) c.number-models.ensures
+returns c = serial_all c.loop-j.invariant.1 (omega arith) c.from-models.ensures
 
 pub rows_at-p-requires : goal.rows_at-p-requires
 rows_at-p-requires c = c.requires.1

@@ -1,5 +1,5 @@
 -- `put_rows` meets its contract: a turn puts one model's row.
-use Prim.Native.Nat.{ℕ, ◌-◌, ◌≤◌, ◌+◌, ◌*◌}
+use Prim.Native.Nat.{ℕ, ◌≤◌, ◌+◌, ◌*◌}
 use native.Mathlib.Omega.{arith}
 use mathlib.Core.Path.{refl, sym, subst}
 use lib.ListN.{length}
@@ -13,7 +13,7 @@ use Rattle.c_bank.proofs.put_rows.Goals as goal
 pub loop-j-init : goal.loop-j-init
 loop-j-init c =
     let a = c.args in
-    let e = c.number-models.ensures in
+    let e = c.from-models.ensures in
     serial_none _ _ _ _ _ (omega (arith, e, bounds a.k)) c.requires.0.0 c.requires.0.1
     (subst (λ (k : ℕ). a.q + k * a.step + 4 ≤ length a.bank.now + a.step) (sym e) c.requires.1) (λ j. omega (arith, length_cut (count a.n) (row a.m.now j), bounds a.n))
 
@@ -22,7 +22,7 @@ loop-j-preserved c =
     serial_more c.loop-j.invariant c.loop-j-test.true refl c.put_row.ensures
 
 pub returns : goal.returns
-returns c = serial_all c.loop-j.invariant (omega arith) c.number-models.ensures
+returns c = serial_all c.loop-j.invariant (omega arith) c.from-models.ensures
 
 pub overflow_mul-j : goal.overflow_mul-j
 overflow_mul-j c = omega (arith, serial_place c.loop-j.invariant c.loop-j-test.true)

@@ -4,7 +4,6 @@ use mathlib.Core.Path.{refl, sym, ap, ◌∙◌}
 use mathlib.Core.Bool.{Bool}
 use mathlib.Core.List.{List, [], ◌∷◌}
 use Prim.Native.Nat.{ℕ}
-use lib.ListN.{length}
 use lib.Ieee.{Float}
 use Rattle.answer.specs.Told.{given}
 use Rattle.answer.specs.Answer.{where_sized}
@@ -13,18 +12,8 @@ use Rattle.mixing.specs.Mixing.{uniform}
 use Rattle.layout.specs.Layout.{joined}
 use Rattle.layout.proofs.Places.{placed-none}
 use Rattle.steps.proofs.Sizes.{well_sized_lem}
-use Rattle.c_bank.proofs.Puts.{Given, given_of, put_next, put_last, put_all, uniform-put}
-use Rattle.c_imm.proofs.imm_new.Lts as lts
-use Rattle.c_imm.proofs.imm_new.Tie as tie
-use Rattle.c_imm.proofs.imm_new.Reads as reads
+use Rattle.c_bank.proofs.Puts.{given_of, put_next, put_last, put_all, uniform-put}
 use Rattle.c_imm.proofs.imm_new.Goals as goal
-
-abbrev Then-is_parts : Type 0
-Then-is_parts = lts.Then1 tie.the-claims reads.Pre reads.Post
-
-test : (c : Then-is_parts) → let a = c.args in
-    Given a.n a.m a.k (length a.bank.now) a.models.now a.transition.now a.c.now a.r.now
-test c = given_of _ _ _ _ _ _ _ _ (sym c.is_parts.ensures ∙ c.if-is_parts.true)
 
 -- by the test of the sizes
 abbrev by : ℕ → List Float → List Float → List Float → List Float → List Float → Bool → ℕ × List Float
@@ -33,7 +22,7 @@ by k b a t c r u = given b (where_sized u (joined (a ∷ t ∷ c ∷ r ∷ unifo
 pub returns-then-is_parts : goal.returns-then-is_parts
 returns-then-is_parts c =
     let a = c.args in
-    let g = test c.before.before.before.before.before.before.before.before.before.before.before.before.before.before.before.before.before.before.before.before.before.before.before in
+    let g = (given_of _ _ _ _ _ _ _ _ (sym c.is_parts.ensures ∙ c.if-is_parts.true)) in
     let b = a.bank.now in
     let k = is_count (well_sized_lem _ _ _ g.whole.sizes).inputs c.size_of-sk.ensures in
     let e0 = put_next g b 0 (omega arith) refl (omega (arith, g, g.whole.long)) (sym (placed-none 0 b)) c.put_slice.ensures in
@@ -50,10 +39,10 @@ returns-else-is_parts c =
     ap (by a.k a.bank.now a.models.now a.transition.now a.c.now a.r.now) (sym (sym c.is_parts.ensures ∙ c.if-is_parts.false))
 
 pub overflow_add-to_c : goal.overflow_add-to_c
-overflow_add-to_c c = omega (arith, test c.before, (test c.before).whole.few)
+overflow_add-to_c c = omega (arith, (given_of _ _ _ _ _ _ _ _ (sym c.is_parts.ensures ∙ c.if-is_parts.true)), (given_of _ _ _ _ _ _ _ _ (sym c.is_parts.ensures ∙ c.if-is_parts.true)).whole.few)
 
 pub overflow_add-to_r : goal.overflow_add-to_r
-overflow_add-to_r c = omega (arith, test c.before, (test c.before).whole.few)
+overflow_add-to_r c = omega (arith, (given_of _ _ _ _ _ _ _ _ (sym c.is_parts.ensures ∙ c.if-is_parts.true)), (given_of _ _ _ _ _ _ _ _ (sym c.is_parts.ensures ∙ c.if-is_parts.true)).whole.few)
 
 pub overflow_add-to_mu : goal.overflow_add-to_mu
-overflow_add-to_mu c = omega (arith, test c.before, (test c.before).whole.few)
+overflow_add-to_mu c = omega (arith, (given_of _ _ _ _ _ _ _ _ (sym c.is_parts.ensures ∙ c.if-is_parts.true)), (given_of _ _ _ _ _ _ _ _ (sym c.is_parts.ensures ∙ c.if-is_parts.true)).whole.few)

@@ -5,18 +5,9 @@ use mathlib.Core.Bool.{◌&&◌}
 use lib.Dec.{eqb}
 use Prim.Native.Nat.{◌*◌}
 use Rattle.c_sqrt_kalman.specs.Root.{is_parts}
-use Rattle.c_copies.proofs.Filters.{Few, and_tested, and_failed}
+use Rattle.c_copies.proofs.Filters.{and_tested, and_failed}
 use Rattle.c_sqrt_kalman.proofs.Filters.{whole_of}
-use Rattle.c_sqrt_kalman.proofs.is_parts.Lts as lts
-use Rattle.c_sqrt_kalman.proofs.is_parts.Tie as tie
-use Rattle.c_sqrt_kalman.proofs.is_parts.Reads as reads
 use Rattle.c_sqrt_kalman.proofs.is_parts.Goals as goal
-
-abbrev Then-is_filter : Type 0
-Then-is_filter = lts.Then1 tie.the-claims reads.Pre reads.Post
-
-few : (c : Then-is_filter) → let a = c.args in Few a.n a.m a.i
-few c = (whole_of _ _ _ _ (sym c.is_filter.ensures ∙ c.if-is_filter.true)).few
 
 pub returns-then-is_filter : goal.returns-then-is_filter
 unfolding is_parts
@@ -30,16 +21,16 @@ unfolding is_parts
 returns-else-is_filter c = and_failed _ _ c.is_filter.ensures c.if-is_filter.false
 
 pub overflow_mul-n : goal.overflow_mul-n
-overflow_mul-n c = omega (arith, few c)
+overflow_mul-n c = omega (arith, ((whole_of _ _ _ _ (sym c.is_filter.ensures ∙ c.if-is_filter.true)).few))
 
 pub overflow_mul-n-then-is_filter : goal.overflow_mul-n-then-is_filter
-overflow_mul-n-then-is_filter c = omega (arith, few c)
+overflow_mul-n-then-is_filter c = omega (arith, ((whole_of _ _ _ _ (sym c.is_filter.ensures ∙ c.if-is_filter.true)).few))
 
 pub overflow_mul-m : goal.overflow_mul-m
-overflow_mul-m c = omega (arith, few c)
+overflow_mul-m c = omega (arith, ((whole_of _ _ _ _ (sym c.is_filter.ensures ∙ c.if-is_filter.true)).few))
 
 pub overflow_mul-n-then-is_filter-2 : goal.overflow_mul-n-then-is_filter-2
-overflow_mul-n-then-is_filter-2 c = omega (arith, few c.before.before)
+overflow_mul-n-then-is_filter-2 c = omega (arith, ((whole_of _ _ _ _ (sym c.is_filter.ensures ∙ c.if-is_filter.true)).few))
 
 pub overflow_mul-n-then-is_filter-3 : goal.overflow_mul-n-then-is_filter-3
-overflow_mul-n-then-is_filter-3 c = omega (arith, few c.before.before.before)
+overflow_mul-n-then-is_filter-3 c = omega (arith, ((whole_of _ _ _ _ (sym c.is_filter.ensures ∙ c.if-is_filter.true)).few))

@@ -12,17 +12,8 @@ use Rattle.answer.specs.Told.{given}
 use Rattle.answer.specs.Answer.{where_sized}
 use Rattle.c_sqrt_kalman.specs.Root.{state_place, is_filter, is_step}
 use Rattle.c_copies.proofs.Filters.{and_tested, and_failed, copied}
-use Rattle.c_sqrt_kalman.proofs.Filters.{Whole, whole_of}
-use Rattle.c_sqrt_kalman.proofs.sqrt_kalman_cholesky_factor.Lts as lts
-use Rattle.c_sqrt_kalman.proofs.sqrt_kalman_cholesky_factor.Tie as tie
-use Rattle.c_sqrt_kalman.proofs.sqrt_kalman_cholesky_factor.Reads as reads
+use Rattle.c_sqrt_kalman.proofs.Filters.{whole_of}
 use Rattle.c_sqrt_kalman.proofs.sqrt_kalman_cholesky_factor.Goals as goal
-
-abbrev Then-is_filter : Type 0
-Then-is_filter = lts.Then1 tie.the-claims reads.Pre reads.Post
-
-test : (c : Then-is_filter) → let a = c.args in Whole a.n a.m a.i (length a.filter.now)
-test c = whole_of _ _ _ _ (sym c.is_filter.ensures ∙ c.if-is_filter.true)
 
 -- by the test of the sizes
 abbrev by : ℕ → ℕ → ℕ → List Float → List Float → Bool → ℕ × List Float
@@ -32,7 +23,7 @@ pub returns-then-out-n : goal.returns-then-out-n
 unfolding is_step
 returns-then-out-n c =
     let a = c.args in
-    let s = test c.before.before.before.before.before.before.before.before in
+    let s = (whole_of _ _ _ _ (sym c.is_filter.ensures ∙ c.if-is_filter.true)) in
     let is = copied {k = state_place a.n a.m a.i + a.n} a.filter.now a.out.now (omega (arith, c.state_place.ensures)) c.if-out-n.true (omega (arith, s.long)) c.put_slice.ensures in
     (λ j. (0, is j))
     ∙ ap (by a.n a.m a.i a.filter.now a.out.now)
@@ -53,19 +44,19 @@ returns-else-is_filter c =
     (and_failed (is_filter a.n a.m a.i (length a.filter.now)) (eqb (length a.out.now) (a.n * a.n)) c.is_filter.ensures c.if-is_filter.false)
 
 pub overflow_mul-n : goal.overflow_mul-n
-overflow_mul-n c = omega (arith, (test c.before).few)
+overflow_mul-n c = omega (arith, (whole_of _ _ _ _ (sym c.is_filter.ensures ∙ c.if-is_filter.true)).few)
 
 pub state_place-requires : goal.state_place-requires
-state_place-requires c = (test c.before.before).sizes
+state_place-requires c = (whole_of _ _ _ _ (sym c.is_filter.ensures ∙ c.if-is_filter.true)).sizes
 
 pub overflow_add-from : goal.overflow_add-from
-overflow_add-from c = omega (arith, (test c.before.before.before).few, c.state_place.ensures)
+overflow_add-from c = omega (arith, (whole_of _ _ _ _ (sym c.is_filter.ensures ∙ c.if-is_filter.true)).few, c.state_place.ensures)
 
 pub overflow_add-end : goal.overflow_add-end
-overflow_add-end c = omega (arith, (test c.before.before.before).few, c.state_place.ensures)
+overflow_add-end c = omega (arith, (whole_of _ _ _ _ (sym c.is_filter.ensures ∙ c.if-is_filter.true)).few, c.state_place.ensures)
 
 pub offset_bounds-filter-from : goal.offset_bounds-filter-from
-offset_bounds-filter-from c = omega (arith, (test c.before.before.before.before).few, c.state_place.ensures)
+offset_bounds-filter-from c = omega (arith, (whole_of _ _ _ _ (sym c.is_filter.ensures ∙ c.if-is_filter.true)).few, c.state_place.ensures)
 
 pub slice_bounds-put_slice-end : goal.slice_bounds-put_slice-end
-slice_bounds-put_slice-end c = omega (arith, (test c.before.before.before.before).long, c.state_place.ensures)
+slice_bounds-put_slice-end c = omega (arith, (whole_of _ _ _ _ (sym c.is_filter.ensures ∙ c.if-is_filter.true)).long, c.state_place.ensures)

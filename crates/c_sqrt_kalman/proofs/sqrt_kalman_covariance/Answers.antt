@@ -17,17 +17,8 @@ use Rattle.filtering.specs.SquareRoot.{covariance}
 use Rattle.steps.proofs.Sizes.{well_sized_lem}
 use Rattle.c_copies.proofs.Filters.{and_tested, and_failed}
 use Rattle.c_sqrt_kalman.proofs.Starts.{covers}
-use Rattle.c_sqrt_kalman.proofs.Filters.{Whole, whole_of}
-use Rattle.c_sqrt_kalman.proofs.sqrt_kalman_covariance.Lts as lts
-use Rattle.c_sqrt_kalman.proofs.sqrt_kalman_covariance.Tie as tie
-use Rattle.c_sqrt_kalman.proofs.sqrt_kalman_covariance.Reads as reads
+use Rattle.c_sqrt_kalman.proofs.Filters.{whole_of}
 use Rattle.c_sqrt_kalman.proofs.sqrt_kalman_covariance.Goals as goal
-
-abbrev Then-is_filter : Type 0
-Then-is_filter = lts.Then1 tie.the-claims reads.Pre reads.Post
-
-test : (c : Then-is_filter) → let a = c.args in Whole a.n a.m a.i (length a.filter.now)
-test c = whole_of _ _ _ _ (sym c.is_filter.ensures ∙ c.if-is_filter.true)
 
 -- by the test of the sizes
 abbrev by : ℕ → ℕ → ℕ → List Float → List Float → Bool → ℕ × List Float
@@ -37,7 +28,7 @@ pub returns-then-out-n : goal.returns-then-out-n
 unfolding is_step
 returns-then-out-n c =
     let a = c.args in
-    let s = test c.before.before.before.before.before.before.before.before.before.before.before.before in
+    let s = (whole_of _ _ _ _ (sym c.is_filter.ensures ∙ c.if-is_filter.true)) in
     let is = covers a.n a.m a.i a.filter.now s c.size_of-size.result (is_count (well_sized_lem _ _ _ s.sizes).states c.size_of-size.ensures) (omega (arith, c.state_place.ensures)) c.matrix_at-l.ensures
     c.covariance-p.ensures a.out.now c.if-out-n.true c.put_matrix.ensures in
     (λ j. (0, is j))
@@ -59,10 +50,10 @@ returns-else-is_filter c =
     (and_failed (is_filter a.n a.m a.i (length a.filter.now)) (eqb (length a.out.now) (a.n * a.n)) c.is_filter.ensures c.if-is_filter.false)
 
 pub overflow_mul-n : goal.overflow_mul-n
-overflow_mul-n c = omega (arith, (test c.before).few)
+overflow_mul-n c = omega (arith, (whole_of _ _ _ _ (sym c.is_filter.ensures ∙ c.if-is_filter.true)).few)
 
 pub state_place-requires : goal.state_place-requires
-state_place-requires c = (test c.before.before).sizes
+state_place-requires c = (whole_of _ _ _ _ (sym c.is_filter.ensures ∙ c.if-is_filter.true)).sizes
 
 pub overflow_add-from : goal.overflow_add-from
-overflow_add-from c = omega (arith, (test c.before.before.before).few, c.state_place.ensures)
+overflow_add-from c = omega (arith, (whole_of _ _ _ _ (sym c.is_filter.ensures ∙ c.if-is_filter.true)).few, c.state_place.ensures)

@@ -17,19 +17,19 @@ pub returns-then-n-lt2 : goal.returns-then-n-lt2
 returns-then-n-lt2 c =
     let a = c.args in
     let w : List (List Float) = c.shares-w0.result ∷ (replicate 4 +0) ∷ (replicate 4 +0) ∷ (replicate 4 +0) ∷ [] in
-    up_to_one (λ i. front a.k (row w i) ≡ table (count a.k) (λ j. share_of (at a.mu i) (cell a.t.now i j) (at a.c j))) (count a.k) (omega (arith, c.number-n.ensures, c.if-n-lt2.true)) c.shares-w0.ensures
+    up_to_one (λ i. front a.k (row w i) ≡ table (count a.k) (λ j. share_of (at a.mu i) (cell a.t.now i j) (at a.c j))) (count a.k) (omega (arith, c.from-n.ensures, c.if-n-lt2.true)) c.shares-w0.ensures
 
 pub returns-then-n-lt3 : goal.returns-then-n-lt3
 returns-then-n-lt3 c =
     let a = c.args in
     let w : List (List Float) = c.shares-w0.result ∷ c.shares-w1.result ∷ (replicate 4 +0) ∷ (replicate 4 +0) ∷ [] in
-    up_to_two (λ i. front a.k (row w i) ≡ table (count a.k) (λ j. share_of (at a.mu i) (cell a.t.now i j) (at a.c j))) (count a.k) (omega (arith, c.number-n.ensures, c.if-n-lt3.true)) c.shares-w0.ensures c.shares-w1.ensures
+    up_to_two (λ i. front a.k (row w i) ≡ table (count a.k) (λ j. share_of (at a.mu i) (cell a.t.now i j) (at a.c j))) (count a.k) (omega (arith, c.from-n.ensures, c.if-n-lt3.true)) c.shares-w0.ensures c.shares-w1.ensures
 
 pub returns-then-n-lt4 : goal.returns-then-n-lt4
 returns-then-n-lt4 c =
     let a = c.args in
     let w : List (List Float) = c.shares-w0.result ∷ c.shares-w1.result ∷ c.shares-w2.result ∷ (replicate 4 +0) ∷ [] in
-    up_to_three (λ i. front a.k (row w i) ≡ table (count a.k) (λ j. share_of (at a.mu i) (cell a.t.now i j) (at a.c j))) (count a.k) (omega (arith, c.number-n.ensures, c.if-n-lt4.true)) c.shares-w0.ensures c.shares-w1.ensures c.shares-w2.ensures
+    up_to_three (λ i. front a.k (row w i) ≡ table (count a.k) (λ j. share_of (at a.mu i) (cell a.t.now i j) (at a.c j))) (count a.k) (omega (arith, c.from-n.ensures, c.if-n-lt4.true)) c.shares-w0.ensures c.shares-w1.ensures c.shares-w2.ensures
 
 pub returns : goal.returns
 returns c =

@@ -17,19 +17,19 @@ pub returns-then-n-lt2 : goal.returns-then-n-lt2
 returns-then-n-lt2 c =
     let a = c.args in
     let w : List (List Float) = c.mixed_state-m0.result ∷ (replicate 4 +0) ∷ (replicate 4 +0) ∷ (replicate 4 +0) ∷ [] in
-    up_to_one (λ i. row w i ≡ row_times (count a.k) (table 4 (λ j. cell a.w.now j i)) a.x.now) (count a.k) (omega (arith, c.number-n.ensures, c.if-n-lt2.true)) c.mixed_state-m0.ensures
+    up_to_one (λ i. row w i ≡ row_times (count a.k) (table 4 (λ j. cell a.w.now j i)) a.x.now) (count a.k) (omega (arith, c.from-n.ensures, c.if-n-lt2.true)) c.mixed_state-m0.ensures
 
 pub returns-then-n-lt3 : goal.returns-then-n-lt3
 returns-then-n-lt3 c =
     let a = c.args in
     let w : List (List Float) = c.mixed_state-m0.result ∷ c.mixed_state-m1.result ∷ (replicate 4 +0) ∷ (replicate 4 +0) ∷ [] in
-    up_to_two (λ i. row w i ≡ row_times (count a.k) (table 4 (λ j. cell a.w.now j i)) a.x.now) (count a.k) (omega (arith, c.number-n.ensures, c.if-n-lt3.true)) c.mixed_state-m0.ensures c.mixed_state-m1.ensures
+    up_to_two (λ i. row w i ≡ row_times (count a.k) (table 4 (λ j. cell a.w.now j i)) a.x.now) (count a.k) (omega (arith, c.from-n.ensures, c.if-n-lt3.true)) c.mixed_state-m0.ensures c.mixed_state-m1.ensures
 
 pub returns-then-n-lt4 : goal.returns-then-n-lt4
 returns-then-n-lt4 c =
     let a = c.args in
     let w : List (List Float) = c.mixed_state-m0.result ∷ c.mixed_state-m1.result ∷ c.mixed_state-m2.result ∷ (replicate 4 +0) ∷ [] in
-    up_to_three (λ i. row w i ≡ row_times (count a.k) (table 4 (λ j. cell a.w.now j i)) a.x.now) (count a.k) (omega (arith, c.number-n.ensures, c.if-n-lt4.true)) c.mixed_state-m0.ensures c.mixed_state-m1.ensures c.mixed_state-m2.ensures
+    up_to_three (λ i. row w i ≡ row_times (count a.k) (table 4 (λ j. cell a.w.now j i)) a.x.now) (count a.k) (omega (arith, c.from-n.ensures, c.if-n-lt4.true)) c.mixed_state-m0.ensures c.mixed_state-m1.ensures c.mixed_state-m2.ensures
 
 pub returns : goal.returns
 returns c =

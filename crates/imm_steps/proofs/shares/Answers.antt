@@ -12,12 +12,12 @@ use Rattle.imm_steps.specs.Bank.{share_of}
 use Rattle.imm_steps.proofs.Ways.{up_to_two, up_to_four, first_are}
 use Rattle.imm_steps.proofs.shares.Goals as goal
 
-pub returns-then-number-lt3 : goal.returns-then-number-lt3
-returns-then-number-lt3 c =
+pub returns-then-from-lt3 : goal.returns-then-from-lt3
+returns-then-from-lt3 c =
     let a = c.args in
     let f : ℕ → Float = λ j. share_of a.m (at a.t j) (at a.c j) in
     let v = c.share-a.result ∷ c.share-b.result ∷ +0 ∷ +0 ∷ [] in
-    first_are (count a.k) v f (up_to_two (λ j. at v j ≡ f j) (count a.k) (omega (arith, c.number.ensures, c.if-number-lt3.true)) c.share-a.ensures c.share-b.ensures)
+    first_are (count a.k) v f (up_to_two (λ j. at v j ≡ f j) (count a.k) (omega (arith, c.from.ensures, c.if-from-lt3.true)) c.share-a.ensures c.share-b.ensures)
 
 pub returns : goal.returns
 returns c =

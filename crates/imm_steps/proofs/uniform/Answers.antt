@@ -14,12 +14,12 @@ use Rattle.mixing.specs.Mixing.{uniform}
 use Rattle.imm_steps.proofs.uniform.Goals as goal
 
 pub overflow_cast-models : goal.overflow_cast-models
-overflow_cast-models c = omega (arith, c.number-models.ensures, bounds c.args.k)
+overflow_cast-models c = omega (arith, c.from-models.ensures, bounds c.args.k)
 
 pub returns : goal.returns
 unfolding uniform
 returns c =
     let a = c.args in
     c.leading.ensures
-    ∙ leading_row (count a.k) (λ j. one ⊘ of_int binary64 (pos c.number-models.result)) _ (bounds a.k).most refl
-    ∙ ap (λ (m : ℕ). pad_row (table (count a.k) (λ j. one ⊘ of_int binary64 (pos m)))) c.number-models.ensures
+    ∙ leading_row (count a.k) (λ j. one ⊘ of_int binary64 (pos c.from-models.result)) _ (bounds a.k).most refl
+    ∙ ap (λ (m : ℕ). pad_row (table (count a.k) (λ j. one ⊘ of_int binary64 (pos m)))) c.from-models.ensures

@@ -1,25 +1,29 @@
--- `component` meets its contract: by what the test of the variance answers, and the downdate's status.
-use Rattle.sqrt_steps.proofs.Components.{innovation_is, when_done, when_failed, when_refused}
+-- `component` meets its contract: by what the test of the variance answers, and the downdate.
+use mathlib.Core.Path.{sym, ap, ◌∙◌}
+use Rattle.scalar.specs.Number.{◌⊖◌}
+use Rattle.answer.specs.Answer.{mapped}
+use Rattle.small_inverse.proofs.Exits.{exit}
+use Rattle.sqrt_steps.proofs.Components.{innovation_is, when_downdated, when_refused}
 use Rattle.sqrt_steps.proofs.component.Goals as goal
 
-pub returns-in-Done : goal.returns-in-Done
-returns-in-Done c =
+pub returns : goal.returns
+returns c =
     let a = c.args in
-    when_done a.n a.h.now a.r a.z a.x.now a.l.now c.row_product-t.ensures c.number-k.ensures c.dot-tt.ensures c.variance.ensures
-    c.in-Value.is (innovation_is a.n a.h.now a.r a.z a.x.now a.l.now c.number-k.ensures c.dot.ensures) c.product_vector-g.ensures
-    c.over.ensures c.row_scaled.ensures c.vector_sum.ensures c.sqrt.ensures c.over-in-Value.ensures c.downdate-status.ensures c.used_part.ensures
-    c.in-Done.is
+    when_downdated a.n a.h.now a.r a.z a.x.now a.l.now c.row_product-t.ensures c.from-k.ensures c.dot-tt.ensures c.variance.ensures
+    c.in_ok-s.was (innovation_is a.n a.h.now a.r a.z a.x.now a.l.now c.from-k.ensures c.dot.ensures) c.product_vector-g.ensures
+    c.over.ensures c.row_scaled.ensures c.vector_sum.ensures c.sqrt.ensures c.over-2.ensures c.downdate-turned.ensures c.used_part.ensures
+    (ap (mapped (λ u. a.z ⊖ c.dot.result)) (sym c.in_ok-turned.was))
 
-pub returns-in-Refused-status : goal.returns-in-Refused-status
-returns-in-Refused-status c =
+pub returns-in_err-turned : goal.returns-in_err-turned
+returns-in_err-turned c =
     let a = c.args in
-    when_failed a.n a.h.now a.r a.z a.x.now a.l.now c.row_product-t.ensures c.number-k.ensures c.dot-tt.ensures c.variance.ensures
-    c.in-Value.is (innovation_is a.n a.h.now a.r a.z a.x.now a.l.now c.number-k.ensures c.dot.ensures) c.product_vector-g.ensures
-    c.over.ensures c.row_scaled.ensures c.vector_sum.ensures c.sqrt.ensures c.over-in-Value.ensures c.downdate-status.ensures c.used_part.ensures
-    c.in-Refused-status.is
+    when_downdated a.n a.h.now a.r a.z a.x.now a.l.now c.row_product-t.ensures c.from-k.ensures c.dot-tt.ensures c.variance.ensures
+    c.in_ok-s.was (innovation_is a.n a.h.now a.r a.z a.x.now a.l.now c.from-k.ensures c.dot.ensures) c.product_vector-g.ensures
+    c.over.ensures c.row_scaled.ensures c.vector_sum.ensures c.sqrt.ensures c.over-2.ensures c.downdate-turned.ensures c.used_part.ensures
+    (exit c.from_residual-in_err-turned.ensures.1 ∙ ap (mapped (λ u. a.z ⊖ c.dot.result)) (sym c.in_err-turned.was))
 
-pub returns-in-Refused : goal.returns-in-Refused
-returns-in-Refused c =
+pub returns-in_err-s : goal.returns-in_err-s
+returns-in_err-s c =
     let a = c.args in
-    when_refused a.n a.h.now a.r a.z a.x.now a.l.now c.row_product-t.ensures c.number-k.ensures c.dot-tt.ensures c.variance.ensures
-    c.in-Refused.is
+    (λ i. (exit c.from_residual.ensures.1 i, (a.x.now, a.l.now)))
+    ∙ when_refused a.n a.h.now a.r a.z a.x.now a.l.now c.row_product-t.ensures c.from-k.ensures c.dot-tt.ensures c.variance.ensures c.in_err-s.was

@@ -1,20 +1,15 @@
 -- `cholesky_factor` meets its contract.
-use mathlib.Core.Path.{sym, ap, ◌∙◌}
 use Prim.Native.Nat.{ℕ}
-use Rattle.algebra.specs.Array.{pad, used_flat}
-use Rattle.sizes.proofs.Sizes.{is_count}
-use Rattle.matrix.proofs.Results.{matrix-answered, matrix-refused}
-use Rattle.steps.proofs.Sizes.{well_sized_lem}
+use mathlib.Core.Path.{ap, ◌∙◌}
+use Rattle.algebra.specs.Array.{used_flat, pad}
+use Rattle.matrix.proofs.Results.{matrix-answered}
 use Rattle.steps.proofs.Flats.{read}
+use Rattle.steps.proofs.Sizes.{sized_given}
 use Rattle.sqrt_kalman.proofs.SqrtKalman.cholesky_factor.Goals as goal
 
-pub returns-then-is_well_sized : goal.returns-then-is_well_sized
-returns-then-is_well_sized c =
+pub returns : goal.returns
+returns c =
     let f = c.args.self in
-    let e = sym c.is_well_sized.ensures ∙ c.if-is_well_sized.true in
-    c.matrix_result.ensures
-    ∙ matrix-answered _ e
-    (c.used_part.ensures ∙ ap pad (read c.size_of-size.result c.size_of-size.result f.s_chol c.from_flat-s.ensures ∙ ap (λ (k : ℕ). used_flat k k f.s_chol) (is_count (well_sized_lem _ _ _ e).states c.size_of-size.ensures)))
-
-pub returns-else-is_well_sized : goal.returns-else-is_well_sized
-returns-else-is_well_sized c = c.matrix_refused.ensures ∙ matrix-refused _ (sym c.is_well_sized.ensures ∙ c.if-is_well_sized.false)
+    let s = sized_given f.n f.m f.i c.sized.ensures c.in_ok-n.was in
+    matrix-answered _ s.passed
+    (c.used_part.ensures ∙ ap pad (read c.in_ok-n.n c.in_ok-n.n f.s_chol c.from_flat-s.ensures ∙ ap (λ (k : ℕ). used_flat k k f.s_chol) s.states))

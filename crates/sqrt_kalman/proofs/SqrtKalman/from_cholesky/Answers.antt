@@ -1,38 +1,23 @@
--- `from_cholesky` meets its contract.
-use mathlib.Core.Path.{sym, ◌∙◌}
-use Rattle.answer.specs.declared.Status.TheVariants.{Done, Refused}
-use Rattle.sizes.proofs.Sizes.{is_count}
-use Rattle.matrix.proofs.Results.{as_answered, as_refused}
-use Rattle.steps.proofs.Sizes.{well_sized_lem}
-use Rattle.steps.proofs.Flats.{leading_of, flat_of}
-use Rattle.sqrt_kalman.specs.Record.{made}
+-- `from_cholesky` meets its contract: the used parts, laid flat.
+use Rattle.matrix.proofs.Results.{value_answered}
+use Rattle.steps.proofs.Flats.{flat_of, leading_of}
+use Rattle.steps.proofs.Sizes.{sized_given}
 use Rattle.sqrt_kalman.proofs.SqrtKalman.from_cholesky.Goals as goal
 
-pub returns-then-is_well_sized : goal.returns-then-is_well_sized
-returns-then-is_well_sized c =
+pub returns : goal.returns
+returns c =
     let a = c.args in
-    let e = sym c.is_well_sized.ensures ∙ c.if-is_well_sized.true in
-    let s = well_sized_lem _ _ _ e in
-    let n = is_count s.states c.size_of-sn.ensures in
-    let m = is_count s.measurements c.size_of-sm.ensures in
-    let i = is_count s.inputs c.size_of.ensures in
-    as_answered made _ e
+    let s = sized_given a.n a.m a.i c.sized.ensures c.in_ok-sn.was in
+    value_answered _ s.passed
     (λ k. record {
-      answer = Done;
-      filter = record {
-        n = a.n;
-        m = a.m;
-        i = a.i;
-        a = flat_of a.a n n c.flat_part.ensures k;
-        b = flat_of a.b n i c.flat_part-then-is_well_sized.ensures k;
-        h = flat_of a.h m n c.flat_part-then-is_well_sized-2.ensures k;
-        q = flat_of a.q n n c.flat_part-then-is_well_sized-3.ensures k;
-        r_diag = leading_of a.r_diag m c.leading.ensures k;
-        x = leading_of a.x0 n c.leading-then-is_well_sized.ensures k;
-        s_chol = flat_of a.s0 n n c.flat_part-then-is_well_sized-4.ensures k;
-      };
+      n = a.n;
+      m = a.m;
+      i = a.i;
+      a = flat_of a.a s.states s.states c.flat_part.ensures k;
+      b = flat_of a.b s.states s.inputs c.flat_part-2.ensures k;
+      h = flat_of a.h s.measurements s.states c.flat_part-3.ensures k;
+      q = flat_of a.q s.states s.states c.flat_part-4.ensures k;
+      r_diag = leading_of a.r_diag s.measurements c.leading.ensures k;
+      x = leading_of a.x0 s.states c.leading-2.ensures k;
+      s_chol = flat_of a.s0 s.states s.states c.flat_part-5.ensures k;
     })
-
-pub returns-else-is_well_sized : goal.returns-else-is_well_sized
-returns-else-is_well_sized c =
-    as_refused made _ (sym c.is_well_sized.ensures ∙ c.if-is_well_sized.false) (λ k. record { answer = Refused 1; filter = c.no_filter.ensures k })

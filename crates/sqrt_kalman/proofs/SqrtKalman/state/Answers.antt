@@ -1,15 +1,11 @@
 -- `state` meets its contract.
-use mathlib.Core.Path.{sym, ◌∙◌}
-use Rattle.sizes.proofs.Sizes.{is_count}
-use Rattle.matrix.proofs.Results.{vector-answered, vector-refused}
-use Rattle.steps.proofs.Sizes.{well_sized_lem}
+use Rattle.matrix.proofs.Results.{vector-answered}
 use Rattle.steps.proofs.Flats.{leading_of}
+use Rattle.steps.proofs.Sizes.{sized_given}
 use Rattle.sqrt_kalman.proofs.SqrtKalman.state.Goals as goal
 
-pub returns-then-is_well_sized : goal.returns-then-is_well_sized
-returns-then-is_well_sized c =
-    let e = sym c.is_well_sized.ensures ∙ c.if-is_well_sized.true in
-    c.vector_result.ensures ∙ vector-answered _ e (leading_of _ (is_count (well_sized_lem _ _ _ e).states c.size_of.ensures) c.leading.ensures)
-
-pub returns-else-is_well_sized : goal.returns-else-is_well_sized
-returns-else-is_well_sized c = c.vector_refused.ensures ∙ vector-refused _ (sym c.is_well_sized.ensures ∙ c.if-is_well_sized.false)
+pub returns : goal.returns
+returns c =
+    let f = c.args.self in
+    let s = sized_given f.n f.m f.i c.sized.ensures c.in_ok-n.was in
+    vector-answered _ s.passed (leading_of f.x s.states c.leading.ensures)

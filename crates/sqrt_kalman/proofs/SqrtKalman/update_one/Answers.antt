@@ -2,10 +2,8 @@
 use Rattle.sqrt_kalman.proofs.One.{one-answered, one-refused}
 use Rattle.sqrt_kalman.proofs.SqrtKalman.update_one.Goals as goal
 
-pub returns-in-Done : goal.returns-in-Done
-returns-in-Done c =
-    one-answered c.args.self c.args.z c.update-u.ensures c.in-Done.is
+pub returns-in-Ok : goal.returns-in-Ok
+returns-in-Ok c = one-answered c.args.self c.args.z c.update-u.ensures c.in-Ok.is
 
-pub returns-in-Refused : goal.returns-in-Refused
-returns-in-Refused c =
-    one-refused c.args.self c.args.z c.update-u.ensures c.in-Refused.is
+pub returns-in-Err : goal.returns-in-Err
+returns-in-Err c = one-refused c.args.self c.args.z c.update-u.ensures c.in-Err.is

@@ -1,0 +1,27 @@
+-- `mixed_row` meets its contract: a turn adds the term of one model, in all four columns.
+use native.Mathlib.Numerals.{add-one}
+use native.Mathlib.Omega.{arith}
+use mathlib.Core.Path.{sym}
+use Rattle.sizes.proofs.Sizes.{bounds}
+use Rattle.imm_steps.proofs.Ways.{columns-none, columns-more, columns_at}
+use Rattle.imm_steps.proofs.mixed_row.Invariants.{term}
+use Rattle.imm_steps.proofs.mixed_row.Goals as goal
+
+pub loop-i-init : goal.loop-i-init
+loop-i-init c =
+    let e = c.from-models.ensures in
+    let a = c.args in
+    ((e, omega (arith, e, bounds a.k)), (omega arith, columns-none (term a.p.now a.x.now a.m a.y a.w)))
+
+pub loop-i-preserved : goal.loop-i-preserved
+loop-i-preserved c =
+    let a = c.args in
+    let v = c.loop-i.invariant in
+    let g = term a.p.now a.x.now a.m a.y a.w in
+    (v.0, (omega arith, columns_at g (sym (add-one c.loop-i.i)) (columns-more g c.loop-i.i v.1.1 c.plus_spread-next.ensures)))
+
+pub returns : goal.returns
+returns c =
+    let a = c.args in
+    let v = c.loop-i.invariant in
+    columns_at (term a.p.now a.x.now a.m a.y a.w) (omega (arith, v.0.0, v.1.0)) v.1.1
