@@ -3,16 +3,15 @@
 #![tactic(auto)]
 
 use input::read_full;
-use sheet::{Reported, report};
+use sheet::report;
 use std::io;
 
 // The report of a sheet, printed.
 fn print_report(rt: &impl Print, input: &[u8]) -> io::Result<()> {
     let mut output = [0u8; 1600];
-    let told = report(input, &mut output[..]);
-    match told {
-        Reported::Refused(_) => Ok(()),
-        Reported::Written(count) => rt.write_all(&output[..count]),
+    match report(input, &mut output[..]) {
+        Ok(count) => rt.write_all(&output[..count]),
+        Err(_) => Ok(()),
     }
 }
 

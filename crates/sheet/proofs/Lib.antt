@@ -1,5 +1,5 @@
 pub mod Metres
-pub mod Passing
-pub mod Buffer
+pub mod Text
+pub mod Stage
+pub mod Tracking
 pub mod Reporting
-pub mod Calling

@@ -1,177 +1,82 @@
--- The report of a sheet by what the code holds of it, step after step. Assumes nothing.
-use mathlib.Core.Path.{◌≡◌, refl, sym, ap, ◌∙◌}
-use mathlib.Core.Bool.{Bool, true, false}
-use mathlib.Core.List.{List, [], ◌∷◌, ◌++◌, map}
-use mathlib.Core.Option.{Option, none, some}
-use Prim.Native.Nat.{ℕ, ◌+◌, ◌≤◌, ◌<◌}
-use native.Mathlib.Nat.{zero-add}
-use native.Mathlib.Numerals.{add-one}
-use native.Mathlib.Omega.{arith}
+-- What is printed of a sheet by what the code holds of it, step after step. Assumes nothing.
+use mathlib.Core.Path.{◌≡◌, sym, ap, ◌∙◌, subst}
+use mathlib.Core.List.{List, map}
+use Prim.Native.Nat.{ℕ, ◌+◌}
 use lib.IntN.{ℤ}
-use lib.Ieee.{Float}
-use lib.ListN.{length, take, get_or, set, replicate, length-map}
-use lib.Seq.{sets, sets-eq, take_at, take-suc, take-suc-set}
-use Rattle.answer.specs.Table.{pad_to}
-use Rattle.scalar.specs.Number.{+0}
-use Rattle.tracking.specs.Track.{Smoothed, Tracked, rejected, tracked, track}
-use Rattle.tracking.proofs.Laws.{tracks}
-use Rattle.sheets.specs.Verdict.{given, then}
-use Rattle.sheets.specs.Sheet.{Sheet, read_sheet}
-use Rattle.sheets.specs.Output.{all_metres, readings_text, refusal_text, printed}
-use Rattle.sheets.specs.Report.{settings_of, measured_of, track_of, first_line, on_lines, lines_of, answer_of, report}
-use Rattle.sheets.proofs.Sound.{sheet_sound, metres_sound, told-refused, told-given}
-use Rattle.sheets.proofs.Verdicts.{given-long}
-use Rattle.sheets.proofs.Counts.{Few, sheet-counted}
-use Rattle.sheets.proofs.Printing.{metres-long}
-use Rattle.sheets.proofs.Printed.{tracked-long}
-use Rattle.sheet_text.specs.Held.{whole_of, number_of}
-use Rattle.sheet_text.proofs.Fields.{number_of_lem}
-use Rattle.sheet_reader.specs.Held.{no_reading, reading_held, this_sheet, sheet_held}
-use Rattle.sheet_reader.specs.declared.SheetRead.{SheetRead}
-use Rattle.sheet_reader.specs.declared.Reading as Read
-use Rattle.tracker.specs.Tracked.{reading_of, told, track_in}
-use Rattle.tracker.specs.declared.Settings.{Settings}
+use lib.ListN.{length, take}
+use Rattle.std.specs.Prelude.{Ok, Err}
+use Rattle.arrayvec.specs.ArrayVec.{ArrayVec}
+use Rattle.answer.specs.declared.Refusal.TheVariants.{SingularMatrix}
+use Rattle.tracking.specs.Track.{rejected}
+use Rattle.tracker.specs.Tracked.{told, track_in}
 use Rattle.tracker.specs.declared.Positions.{Positions}
-use Rattle.tracker.specs.declared.Reading as Taken
-use Rattle.sheet.specs.Held.{no_mark, marks_held}
-use Rattle.sheet.specs.Call.{settings_held, float_reading}
-use Rattle.sheet.specs.declared.stages.Marks.{Marks}
+use Rattle.sheets.specs.declared.SheetRefusal.{SheetRefusal}
+use Rattle.sheets.specs.Verdict.{Verdict, refused, mapped, then}
+use Rattle.sheets.specs.Sheet.{Sheet, read_sheet}
+use Rattle.sheets.specs.Output.{all_metres, readings_text}
+use Rattle.sheets.specs.Report.{track_of, lines_of, answer_of}
+use Rattle.sheets.proofs.Verdicts.{mapped-given}
+use Rattle.sheets.proofs.Counts.{sheet-counted}
+use Rattle.sheets.proofs.Printed.{tracked-long}
+use Rattle.sheet_reader.specs.Held.{sheet_held}
+use Rattle.sheet_reader.specs.declared.SheetRead.{SheetRead}
+use Rattle.sheet_reader.proofs.Whole.{mapped_err}
+use Rattle.sheet.specs.Held.{float_reading, settings_held, metres_held}
+use Rattle.sheet.proofs.Tracking.{tracked_sheet, rejection, positions}
 
--- ---- lists in arrays
+module _ (s : List ℕ) (sh : Sheet) (a : read_sheet s ≡ Ok sh) where
+  is_told : track_in (settings_held (sheet_held sh)) (map float_reading sh.readings) ≡ told (track_of sh)
+  is_told = let f = sheet-counted s sh a in tracked_sheet sh f.few-readings
 
-map_snoc : {A B : Type 0} (f : A → B) (xs : List A) (w : A) → map f (xs ++ (w ∷ [])) ≡ map f xs ++ (f w ∷ [])
-map_snoc f [] w = refl
-map_snoc f (x ∷ xs) w = ap (λ r. f x ∷ r) (map_snoc f xs w)
+  sheet_err : (k : ℕ) → Err k ≡ track_in (settings_held (sheet_held sh)) (map float_reading sh.readings) → refused SingularMatrix (2 + length sh.ends + k) ≡ then (read_sheet s) answer_of
+  unfolding answer_of
+  sheet_err k e = let r : track_of sh ≡ rejected k = rejection (track_of sh) k (e ∙ is_told) in rw (a, r)
 
--- one more reading in floats
-pub floats_step : (x : List Taken.Reading) (rs : List Read.Reading) (i : ℕ) (v : Taken.Reading) (d : Read.Reading) → i < length x → i < length rs → v ≡ float_reading (get_or rs i d)
-    → take i x ≡ map float_reading (take i rs) → take (i + 1) (set x i v) ≡ map float_reading (take (i + 1) rs)
-floats_step x rs i v d h k e q = rw (add-one i, take-suc-set x i v h, take-suc rs i d k, map_snoc float_reading (take i rs) (get_or rs i d), q, e)
+  module _ (q : Positions) (e : Ok q ≡ track_in (settings_held (sheet_held sh)) (map float_reading sh.readings)) where
+    abbrev metres : Verdict (List ℤ)
+    metres = all_metres (2 + length sh.ends) (take (length sh.readings) q.smoothed)
 
-front : {A : Type 0} (m n : ℕ) (z : A) (vs : List A) → length vs ≡ n → take n (pad_to m z vs) ≡ vs
-front m n z vs l = take_at vs _ n l
+    sheet_lines : then (read_sheet s) answer_of ≡ mapped (readings_text 1 sh.ends) metres
+    unfolding answer_of lines_of
+    sheet_lines =
+        let (l, t, p) = positions (track_of sh) q (e ∙ is_told) in
+        rw (a, t, p (length sh.readings) (tracked-long sh l t))
 
-over : {A : Type 0} (m n : ℕ) (z : A) (vs : List A) → length vs ≡ n → n ≤ m → take n (sets (replicate m z) 0 vs) ≡ vs
-over m n z vs l h =
-    let k : 0 + length vs ≤ length (replicate m z) = rw (zero-add (length vs), lib.ListN.length-replicate m z, l) h in
-    rw (sets-eq vs (replicate m z) 0 k) (take_at vs _ n l)
+    sheet_bad : (w : SheetRefusal) → Err w ≡ mapped metres_held metres → Err w ≡ then (read_sheet s) answer_of
+    sheet_bad w u = sym (sheet_lines ∙ rw (mapped_err metres_held metres w u))
 
-map-number : (zs : List ℤ) → map number_of (map whole_of zs) ≡ zs
-map-number [] = refl
-map-number (z ∷ zs) = rw (number_of_lem z, map-number zs)
+    sheet_good : (v : ArrayVec ℤ) → Ok v ≡ mapped metres_held metres → Ok (readings_text 1 sh.ends v.items) ≡ then (read_sheet s) answer_of
+    sheet_good v u =
+        let (zs, g, h) = mapped-given metres_held metres v (sym u) in
+        sym (sheet_lines ∙ rw g (ap {B = Verdict (List ℕ)} (λ (y : ArrayVec ℤ). Ok (readings_text 1 sh.ends y.items)) h))
 
--- what the tracker is handed is what the definition reads
-measured-held : (o : Option ℤ) → reading_of (float_reading (reading_held o)) ≡ measured_of o
-measured-held none = refl
-measured-held (some z) = rw (number_of_lem z)
+-- ---- the same of what the code holds
 
-measured : (os : List (Option ℤ)) → map reading_of (map float_reading (map reading_held os)) ≡ map measured_of os
-measured [] = refl
-measured (o ∷ os) = rw (measured-held o, measured os)
+module _ (s : List ℕ) (d : SheetRead) (p : Ok d ≡ mapped sheet_held (read_sheet s)) where
+  pub lines_err : (k : ℕ) → Err k ≡ track_in (settings_held d) (map float_reading d.readings.items) → refused SingularMatrix (2 + length d.ends.items + k) ≡ then (read_sheet s) answer_of
+  lines_err k =
+      let (sh, a, b) = mapped-given sheet_held (read_sheet s) d (sym p) in
+      subst
+      (λ (y : SheetRead). Err k ≡ track_in (settings_held y) (map float_reading y.readings.items) → refused SingularMatrix (2 + length y.ends.items + k) ≡ then (read_sheet s) answer_of) b
+      (sheet_err s sh a k)
 
--- ---- the ways of the report
+  module _ (q : Positions) where
+    pub lines_bad : Ok q ≡ track_in (settings_held d) (map float_reading d.readings.items) → (w : SheetRefusal)
+        → Err w ≡ mapped metres_held (all_metres (2 + length d.ends.items) (take (length d.readings.items) q.smoothed)) → Err w ≡ then (read_sheet s) answer_of
+    lines_bad =
+        let (sh, a, b) = mapped-given sheet_held (read_sheet s) d (sym p) in
+        subst
+        (λ (y : SheetRead). Ok q ≡ track_in (settings_held y) (map float_reading y.readings.items) → (w : SheetRefusal)
+        → Err w ≡ mapped metres_held (all_metres (2 + length y.ends.items) (take (length y.readings.items) q.smoothed)) → Err w ≡ then (read_sheet s) answer_of) b
+        (sheet_bad s sh a q)
 
-module _ (s : List ℕ) (d : SheetRead) (pd : d ≡ sheet_held (read_sheet s)) where
-  pub report-refused : (d.number ≡ 0 → ⊥) → report s ≡ refusal_text d.number d.line
-  unfolding report
-  report-refused z = rw (told-refused sheet_held (λ (x : SheetRead). x.number) (λ (x : SheetRead). x.line) (λ n l. (refl, refl)) (λ a. refl) (read_sheet s) d pd z)
-
-  module _ (z : d.number ≡ 0) where
-    found : (sh : Sheet) × (read_sheet s ≡ given sh)
-    found = told-given sheet_held (λ (x : SheetRead). x.number) (λ (x : SheetRead). x.line) (λ n l. (refl, refl)) (λ a. refl) (read_sheet s) (sheet_sound s) d pd z
-
-    sh : Sheet
-    sh = found.0
-
-    it : d ≡ this_sheet sh
-    unfolding sh
-    it = pd ∙ ap sheet_held found.1
-
-    few : Few (length sh.ends) (length sh.readings)
-    unfolding sh
-    few = sheet-counted s found.0 found.1
-
-    pub report-few : Few d.stages d.count
-    report-few = rw it few
-
-    text : report s ≡ printed (answer_of sh)
-    unfolding report sh
-    text = rw found.1
-
-    module _ (x : List Taken.Reading) (px : take d.count x ≡ map float_reading (take d.count d.readings))
-        (t : Settings) (pt : t ≡ settings_held d.step d.process d.measurement) (p : Positions) (pp : p ≡ track_in t x d.count) where
-      handed : map reading_of (take d.count x) ≡ map measured_of sh.readings
-      handed =
-          let a : take d.count d.readings ≡ map reading_held sh.readings =
-          ap (λ (y : SheetRead). take y.count y.readings) it
-          ∙ front 64 (length sh.readings) no_reading (map reading_held sh.readings) (length-map sh.readings reading_held) in
-          ap (map reading_of) (px ∙ ap (map float_reading) a) ∙ measured sh.readings
-
-      is : p ≡ told (track_of sh)
-      unfolding track_of
-      is =
-          let b : settings_held d.step d.process d.measurement ≡ settings_held sh.step sh.process sh.measurement =
-          ap (λ (y : SheetRead). settings_held y.step y.process y.measurement) it in
-          pp ∙ ap (λ (y : Settings). track_in y x d.count) (pt ∙ b) ∙ ap (λ l. told (track (settings_of sh) l)) handed
-
-      rejection : (r : Tracked (List Smoothed)) → p ≡ told r → p.refused ≡ true → r ≡ rejected p.reading
-      rejection (rejected k) e h = rw e
-      rejection (tracked l) e h = let q : ◌≡◌ {A = Bool} false true = sym (ap (λ (y : Positions). y.refused) e) ∙ h in let y : ◌≡◌ {A = ℕ} 0 1 = cc in absurd (omega arith)
-
-      tracking : (r : Tracked (List Smoothed)) → p ≡ told r → p.refused ≡ false → (l : List Smoothed) × (r ≡ tracked l)
-      tracking (rejected k) e h = let q : ◌≡◌ {A = Bool} true false = sym (ap (λ (y : Positions). y.refused) e) ∙ h in let y : ◌≡◌ {A = ℕ} 0 1 = cc in absurd (omega arith)
-      tracking (tracked l) e h = (l, refl)
-
-      -- 3, at the reading's line
-      pub report-three : p.refused ≡ true → (report s ≡ refusal_text 3 (2 + d.stages + p.reading)) × (p.reading < 64)
-      unfolding answer_of track_of
-      report-three h =
-          let r : track_of sh ≡ rejected p.reading = rejection (track_of sh) is h in
-          let a : d.stages ≡ length sh.ends = ap (λ (y : SheetRead). y.stages) it in
-          let f = few.few-readings in
-          let k = tracks.placed (settings_of sh) (map measured_of sh.readings) p.reading r in
-          (text ∙ ap (λ (y : Tracked (List Smoothed)). printed (then (on_lines (first_line sh) y) (lines_of sh))) r ∙ ap (λ (n : ℕ). refusal_text 3 (2 + n + p.reading)) (sym a), omega (arith, f, k, length-map sh.readings measured_of))
-
-      module _ (h : p.refused ≡ false) where
-        got : (l : List Smoothed) × (track_of sh ≡ tracked l)
-        got = tracking (track_of sh) is h
-
-        xs : List Float
-        xs = map (λ (q : Smoothed). q.smoothed) got.0
-
-        long : length xs ≡ length sh.readings
-        unfolding xs
-        long = length-map got.0 (λ (q : Smoothed). q.smoothed) ∙ tracked-long sh got.0 got.1
-
-        these : take d.count p.smoothed ≡ xs
-        unfolding xs
-        these =
-            ap (λ (y : Positions). take d.count y.smoothed) (is ∙ ap told got.1)
-            ∙ front 64 d.count +0 (map (λ (q : Smoothed). q.smoothed) got.0) (long ∙ sym (ap (λ (y : SheetRead). y.count) it))
-
-        lines : report s ≡ printed (lines_of sh xs)
-        unfolding answer_of xs
-        lines = text ∙ rw got.1
-
-        module _ (m : Marks) (pm : m ≡ marks_held (all_metres (2 + d.stages) (take d.count p.smoothed))) where
-          qm : m ≡ marks_held (all_metres (first_line sh) xs)
-          qm = pm ∙ ap (λ (v : List Float). marks_held (all_metres (2 + d.stages) v)) these ∙ ap (λ (y : SheetRead). marks_held (all_metres (2 + y.stages) xs)) it
-
-          pub report-nine : (m.number ≡ 0 → ⊥) → report s ≡ refusal_text m.number m.line
-          unfolding lines_of
-          report-nine w =
-              lines ∙ rw (told-refused marks_held (λ (y : Marks). y.number) (λ (y : Marks). y.line) (λ n l. (refl, refl)) (λ a. refl) (all_metres (first_line sh) xs) m qm w)
-
-          pub report-lines : m.number ≡ 0 → report s ≡ readings_text 1 (take d.stages d.ends) (map number_of (take d.count m.marks))
-          unfolding lines_of
-          report-lines w =
-              let v =
-              told-given marks_held (λ (y : Marks). y.number) (λ (y : Marks). y.line) (λ n l. (refl, refl)) (λ a. refl) (all_metres (first_line sh) xs) (metres_sound (first_line sh) xs) m qm w in
-              let e : length v.0 ≡ length sh.readings = given-long (length xs) (all_metres (first_line sh) xs) v.0 (metres-long (first_line sh) xs) v.1 ∙ long in
-              let a : take d.stages d.ends ≡ sh.ends = ap (λ (y : SheetRead). take y.stages y.ends) it ∙ front 32 (length sh.ends) 0 sh.ends refl in
-              let b : map number_of (take d.count m.marks) ≡ v.0 =
-              ap (λ (y : SheetRead). map number_of (take y.count m.marks)) it
-              ∙ ap (λ (y : Marks). map number_of (take (length sh.readings) y.marks)) (qm ∙ ap marks_held v.1)
-              ∙ ap (map number_of) (over 64 (length sh.readings) no_mark (map whole_of v.0) (length-map v.0 whole_of ∙ e) few.few-readings)
-              ∙ map-number v.0 in
-              lines ∙ rw (v.1, a, b)
+    pub lines_good : Ok q ≡ track_in (settings_held d) (map float_reading d.readings.items) → (v : ArrayVec ℤ)
+        → Ok v ≡ mapped metres_held (all_metres (2 + length d.ends.items) (take (length d.readings.items) q.smoothed))
+        → Ok (readings_text 1 d.ends.items v.items) ≡ then (read_sheet s) answer_of
+    lines_good =
+        let (sh, a, b) = mapped-given sheet_held (read_sheet s) d (sym p) in
+        subst
+        (λ (y : SheetRead). Ok q ≡ track_in (settings_held y) (map float_reading y.readings.items) → (v : ArrayVec ℤ)
+        → Ok v ≡ mapped metres_held (all_metres (2 + length y.ends.items) (take (length y.readings.items) q.smoothed))
+        → Ok (readings_text 1 y.ends.items v.items) ≡ then (read_sheet s) answer_of) b
+        (sheet_good s sh a q)

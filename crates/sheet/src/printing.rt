@@ -1,89 +1,48 @@
-// Lines written into a lent buffer, one after another; each function hands back the place after what it wrote.
-ghost use Rattle.std.specs.Prelude.{◌≡◌, [], ◌∷◌, map, ◌+◌, ◌<◌, ◌≤◌, pos, length, take};
-ghost use Rattle.sheets.specs.Field.{write_field};
-ghost use Rattle.sheets.specs.Output.{line_text, readings_text, refusal_text};
-ghost use Rattle.sheet_text.specs.Held.{number_of};
-ghost use Rattle.sheet.specs.Held.{Stored};
+// The bytes of a report: lines of fields, one after another.
+ghost use Rattle.std.specs.Prelude.{◌≡◌, ◌+◌, ◌*◌, ◌≤◌, ◌++◌, length};
+ghost use Rattle.sheets.specs.Output.{line_text, readings_text};
+ghost use Rattle.sheets.specs.Report.{report};
 
-use crate::stages::stage_of;
-use sheet_text::{Whole, write_field};
+use crate::lines::lines_of;
+use crate::seen::stage;
+use arrayvec::ArrayVec;
+use sheet_text::write_field;
 
-// Eight bytes.
-fn store(out: &mut [u8], at: usize, f: [u8; 8]) -> usize
-    requires { at + 8 ≤ length out.old }
-    ensures { Stored out.old out.new at f result }
+// The bytes of 64 lines of 25.
+pub(crate) const ROOM: usize = 1600;
+
+// A line of numbers.
+fn put_line(text: &mut ArrayVec<u8, ROOM>, numbers: &[i64])
+    requires { length text.old.items + 8 * length numbers.now + 1 ≤ 1600 }
+    ensures { text.new.items ≡ text.old.items ++ line_text numbers.now }
 {
-    let mut j: usize = 0;
-    while j < 8 {
-        out[at + j] = f[j];
-        j += 1;
+    for number in numbers {
+        text.try_extend_from_slice(&write_field(*number)).unwrap();
     }
-    at + 8
+    text.push(b'\n');
 }
 
-// The byte that ends a line.
-fn store_end(out: &mut [u8], at: usize) -> usize
-    requires { at < length out.old }
-    ensures { Stored out.old out.new at (10 ∷ []) result }
+// A line for each reading: its number from 1, its whole metres, its stage.
+fn put_lines(text: &mut ArrayVec<u8, ROOM>, ends: &[u32], metres: &[i64])
+    requires { (length text.old.items + 25 * length metres.now ≤ 1600) × (length ends.now ≤ 32) }
+    ensures { text.new.items ≡ text.old.items ++ readings_text 1 ends.now metres.now }
 {
-    out[at] = b'\n';
-    at + 1
-}
-
-fn put(out: &mut [u8], at: usize, w: Whole) -> usize
-    requires { at + 8 ≤ length out.old }
-    ensures { Stored out.old out.new at (write_field (number_of w)) result }
-{
-    let f = write_field(w);
-    store(out, at, f)
-}
-
-fn put_size(out: &mut [u8], at: usize, size: u32) -> usize
-    requires { at + 8 ≤ length out.old }
-    ensures { Stored out.old out.new at (write_field (pos size)) result }
-{
-    put(out, at, Whole { below: false, size })
-}
-
-// A reading's line: its number, its whole metres, its stage.
-fn put_line(out: &mut [u8], at: usize, number: u32, w: Whole, stage: u32) -> usize
-    requires { at + 25 ≤ length out.old }
-    ensures { Stored out.old out.new at (line_text (pos number ∷ number_of w ∷ pos stage ∷ [])) result }
-{
-    let a = put_size(out, at, number);
-    let b = put(out, a, w);
-    let c = put_size(out, b, stage);
-    store_end(out, c)
-}
-
-// The refusal's line.
-pub(crate) fn put_refusal(out: &mut [u8], number: u32, line: u32) -> usize
-    requires { 17 ≤ length out.old }
-    ensures { Stored out.old out.new 0 (refusal_text number line) result }
-{
-    let a = put_size(out, 0, number);
-    let b = put_size(out, a, line);
-    store_end(out, b)
-}
-
-// The lines of n readings with these whole metres.
-pub(crate) fn put_lines(
-    out: &mut [u8],
-    marks: [Whole; 64],
-    n: usize,
-    ends: [u32; 32],
-    stages: usize,
-) -> usize
-    requires { (1600 ≤ length out.old) × (n ≤ 64) × (stages ≤ 32) }
-    ensures { Stored out.old out.new 0 (readings_text 1 (take stages ends) (map number_of (take n marks))) result }
-{
-    let mut at: usize = 0;
-    let mut i: usize = 0;
-    while i < n {
-        let w = marks[i];
-        let stage = stage_of(ends, stages, w);
-        at = put_line(out, at, (i as u32) + 1, w, stage as u32);
-        i += 1;
+    for (i, m) in metres.iter().enumerate() {
+        put_line(text, &[i as i64 + 1, *m, stage(ends, *m) as i64]);
     }
-    at
+}
+
+// The report of a sheet.
+pub(crate) fn report_text(sheet: &[u8]) -> ArrayVec<u8, ROOM>
+    ensures { result.items ≡ report sheet.now }
+{
+    let mut text = ArrayVec::new();
+    match lines_of(sheet) {
+        Ok(lines) => put_lines(&mut text, lines.ends.as_slice(), lines.metres.as_slice()),
+        Err(refused) => {
+            let number = u8::from(refused.refusal);
+            put_line(&mut text, &[i64::from(number), i64::from(refused.line)]);
+        }
+    }
+    text
 }

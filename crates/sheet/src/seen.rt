@@ -1,33 +1,59 @@
-// What else may be asked of a sheet that was read: the positions of its readings, and the stage of whole metres.
-ghost use Rattle.std.specs.Prelude.{◌≡◌, map, take};
+// What may be asked of a sheet that was read: the positions of its readings, and the stage of whole metres.
+ghost use Rattle.std.specs.Prelude.{◌≡◌, ◌<◌, ◌≤◌, int_le, length, map, position, pos, IfErr};
 ghost use Rattle.sheets.specs.Stage.{stage_of};
-ghost use Rattle.sheet_text.specs.Held.{number_of};
 ghost use Rattle.tracker.specs.Tracked.{track_in};
-ghost use Rattle.sheet.specs.Call.{settings_held, float_reading};
+ghost use Rattle.sheet.specs.Held.{float_reading, settings_held};
 
-use crate::stages::stage_of;
-use crate::{readings_of, settings_of};
+use arrayvec::ArrayVec;
 use sheet_reader::SheetRead;
-use sheet_text::Whole;
-use tracker::{Positions, track};
+use std::num::nearest_i64_to_f64;
+use tracker::{Positions, Settings, track};
 
-// The positions of a sheet's readings, filtered and smoothed.
-pub fn positions_of(sheet: SheetRead) -> Positions
-    ensures { result ≡ track_in (settings_held sheet.step sheet.process sheet.measurement) (map float_reading (take 64 sheet.readings)) sheet.count }
+// Step and noises as floats.
+fn settings_of(sheet: &SheetRead) -> Settings
+    ensures { result ≡ settings_held sheet.now }
 {
-    let readings = sheet.readings;
-    let x = readings_of(readings, 64);
-    let settings = settings_of(sheet.step, sheet.process, sheet.measurement);
-    track(settings, x, sheet.count as usize)
+    Settings {
+        step: f64::from(sheet.step),
+        process: f64::from(sheet.process),
+        measurement: f64::from(sheet.measurement),
+    }
 }
 
-// The stage of whole metres, by the first n of 32 ends, or all where n is larger.
-pub fn stage(ends: [u32; 32], n: usize, metres: Whole) -> usize
-    ensures { result ≡ stage_of (take n ends) (number_of metres) }
+// Readings as floats.
+fn float_readings(readings: &[Option<i64>]) -> ArrayVec<Option<f64>, 64>
+    requires { length readings.now ≤ 64 }
+    ensures { result.items ≡ map float_reading readings.now }
 {
-    if n < 32 {
-        stage_of(ends, n, metres)
-    } else {
-        stage_of(ends, 32, metres)
+    let mut floats = ArrayVec::new();
+    for reading in readings {
+        floats.push(reading.map(nearest_i64_to_f64));
+    }
+    floats
+}
+
+// The positions of a sheet's readings, filtered and smoothed; or the reading, from 0, that is refused.
+pub fn positions_of(sheet: &SheetRead) -> Result<Positions, usize>
+    ensures positions { result ≡ track_in (settings_held sheet.now) (map float_reading sheet.now.readings.items) }
+    ensures placed { IfErr result (λ k. k < 64) }
+{
+    let readings = float_readings(sheet.readings.as_slice());
+    track(settings_of(sheet), readings.as_slice())
+}
+
+// The first end that is not below whole metres.
+fn reached(ends: &[u32], metres: i64) -> Option<usize>
+    ensures { result ≡ position (λ e. int_le metres (pos e)) ends.now }
+{
+    ends.iter().position(|end| metres <= i64::from(*end))
+}
+
+// The stage of whole metres, from 1: the first whose end is not below them, else the last.
+pub fn stage(ends: &[u32], metres: i64) -> usize
+    ensures { result ≡ stage_of ends.now metres }
+{
+    match reached(ends, metres) {
+        Some(k) => k + 1,
+        None => ends.len(),
     }
 }

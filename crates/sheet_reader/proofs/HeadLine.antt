@@ -1,36 +1,36 @@
 -- Line 1, read. Assumes nothing.
-use mathlib.Core.Path.{◌≡◌, sym, ◌∙◌}
-use mathlib.Core.Bool.{Bool, true, false}
+use mathlib.Core.Path.{◌≡◌, refl, sym}
+use mathlib.Core.Bool.{Bool, true, false, cond}
 use mathlib.Core.List.{List, []}
 use Prim.Native.Nat.{ℕ}
 use lib.IntN.{ℤ}
-use Rattle.sheets.specs.Line.{field_at, or_zero, form, values, read_lines}
-use Rattle.sheets.specs.Sheet.{head_in_range, head_test, read_head}
-use Rattle.sheets.proofs.Lines.{lines_bad, lines-out, lines_step}
-use Rattle.sheet_text.specs.Held.{whole_of, number_of}
-use Rattle.sheet_text.specs.declared.Whole.{Whole}
-use Rattle.sheet_text.proofs.Fields.{number_of_lem, size_of}
-use Rattle.sheet_reader.specs.Held.{no_head, head_held}
+use Rattle.std.specs.Prelude.{◌≤◌, Some, None, Result, Ok, Err, IfOk}
+use Rattle.std.specs.Option.{ok_or}
+use Rattle.answer.specs.declared.Refusal.TheVariants.{BadForm, OutOfRange}
+use Rattle.sheets.specs.Verdict.{refused, mapped, prepend}
+use Rattle.sheets.specs.Sheet.{head_test, read_head}
+use Rattle.sheets.specs.declared.SheetRefusal.{SheetRefusal}
+use Rattle.sheets.proofs.Verdicts.{mapped-given}
+use Rattle.sheets.proofs.Counts.{head-counts}
+use Rattle.sheet_reader.specs.declared.head.Head.{Head}
+use Rattle.sheet_reader.specs.Held.{line_at, row_held, head_in, head_held}
+use Rattle.sheet_reader.proofs.Fill.{read_next}
 
 module _ (s : List ℕ) where
-  -- the field at a place, as a number
-  abbrev at : ℕ → ℤ
-  at i = or_zero (field_at s i)
+  pub head_bad : line_at 5 s 0 ≡ None → mapped head_held (read_head s) ≡ refused BadForm 1
+  head_bad e = rw (read_next, e)
 
-  pub head_bad : form 5 s 0 ≡ false → head_held (read_head s) ≡ no_head 7 1
-  head_bad f = rw (lines_bad 5 head_test 0 [] 1 0 s f)
+  pub head_read : (zs : List ℤ) → line_at 5 s 0 ≡ Some zs → mapped head_held (read_head s) ≡ ok_or (head_in zs) (record { refusal = OutOfRange; line = 1 })
+  unfolding Rattle.sheets.specs.Line.read_lines
+  head_read zs e = rw (read_next, e) (go (head_test [] zs))
+    where
+      go : (b : Bool) → mapped head_held (cond b (prepend zs (Ok [])) (refused OutOfRange 1)) ≡ ok_or {E = SheetRefusal} (cond b (Some (row_held zs)) None) (record { refusal = OutOfRange; line = 1 })
+      go true = refl
+      go false = refl
 
-  module _ (a b c d e : Whole) (f : form 5 s 0 ≡ true) (pa : a ≡ whole_of (at 0)) (pb : b ≡ whole_of (at 8)) (pc : c ≡ whole_of (at 16)) (pd : d ≡ whole_of (at 24)) (pe : e ≡ whole_of (at 32))
-      (t : Bool) (q : t ≡ head_in_range (number_of a) (number_of b) (number_of c) (number_of d) (number_of e)) where
-    same : head_test [] (values 5 s 0) ≡ t
-    unfolding values
-    same = sym (q ∙ rw (pa, pb, pc, pd, pe, number_of_lem (at 0), number_of_lem (at 8), number_of_lem (at 16), number_of_lem (at 24), number_of_lem (at 32)))
-
-    pub head-out : t ≡ false → head_held (read_head s) ≡ no_head 8 1
-    head-out h = rw (lines-out 5 head_test 0 [] 1 0 s f (same ∙ h))
-
-    pub head-given : t ≡ true
-        → head_held (read_head s) ≡ record { number = 0; line = 0; step = a.size; process = b.size; measurement = c.size; stages = d.size; readings = e.size }
-    unfolding values read_lines
-    head-given h =
-        rw (lines_step 5 head_test 0 [] 1 0 s f (same ∙ h), pa, pb, pc, pd, pe, size_of (at 0), size_of (at 8), size_of (at 16), size_of (at 24), size_of (at 32))
+  pub head_few : (r : Result Head SheetRefusal) → r ≡ mapped head_held (read_head s) → IfOk r (λ h. (h.stages ≤ 32) × (h.readings ≤ 64))
+  head_few (Err w) e = tt
+  head_few (Ok h) e =
+      let (hs, a, b) = mapped-given head_held (read_head s) h (sym e) in
+      let f = head-counts s hs a in
+      rw (← b) (f.few-stages, f.few-readings)

@@ -1,6 +1,6 @@
+pub mod Line
 pub mod Fill
-pub mod Fields
+pub mod Ends
+pub mod Readings
 pub mod HeadLine
-pub mod EndLines
-pub mod ReadingLines
 pub mod Whole

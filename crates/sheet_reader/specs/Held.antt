@@ -1,93 +1,45 @@
--- What the code's records hold of a sheet: a refusal's number and line, or 0 and what was read, from each array's start on. Definitions only.
-use Rattle.std.specs.Prelude.{true, false, List, map, ℕ, ℤ, pos, nat_abs, length, replicate}
-use Rattle.std.proofs.Math.Option.{Option, none, some}
-use Rattle.std.proofs.lemmas.List.Edits.{sets}
-use Rattle.answer.specs.Table.{pad_to}
-use Rattle.sheets.specs.Verdict.{Verdict, refused, given}
-use Rattle.sheets.specs.Line.{nth}
-use Rattle.sheets.specs.Sheet.{Sheet, only, end_of, reading_of}
-use Rattle.sheet_text.specs.Held.{whole_of}
-use Rattle.sheet_reader.specs.declared.Reading.{Reading}
+-- What the code holds of a sheet that it reads. Definitions only.
+use Rattle.std.specs.Prelude.{cond, List, [], ◌∷◌, map, ℕ, ℤ, nat_abs, Option, Some, None}
+use Rattle.arrayvec.specs.ArrayVec.{ArrayVec}
+use Rattle.sheets.specs.Line.{form, nth, values}
+use Rattle.sheets.specs.Sheet.{Sheet, only, end_of, end_in_range, head_test, reading_in_range, reading_of, stages_of, readings_of}
 use Rattle.sheet_reader.specs.declared.SheetRead.{SheetRead}
 use Rattle.sheet_reader.specs.declared.head.Head.{Head}
-use Rattle.sheet_reader.specs.declared.parts.Ends.{Ends}
-use Rattle.sheet_reader.specs.declared.parts.Readings.{Readings}
 
--- the rows that were given, each as `row` has it, over e from place i on, or the refusal
-abbrev pub filled : {A R : Type 0} → (ℕ → ℕ → R) → (List A → R) → (List ℤ → A) → List A → ℕ → Verdict (List (List ℤ)) → R
-filled refusal made row e i (refused n l) = refusal n l
-filled refusal made row e i (given rows) = made (sets e i (map row rows))
+-- the numbers of the line of k fields that begins at byte `at`, where it has its form
+abbrev pub line_at : ℕ → List ℕ → ℕ → Option (List ℤ)
+line_at k s at = cond (form k s at) (Some (values k s at)) None
 
--- ---- line 1
-
-abbrev pub no_head : ℕ → ℕ → Head
-no_head n l = record { number = n; line = l; step = 0; process = 0; measurement = 0; stages = 0; readings = 0 }
-
+-- what line 1's numbers say; and where they are in range
 abbrev pub row_held : List ℤ → Head
-row_held zs =
+row_held h = record { step = nat_abs (nth h 0); process = nat_abs (nth h 1); measurement = nat_abs (nth h 2); stages = stages_of h; readings = readings_of h }
+
+abbrev pub head_in : List ℤ → Option Head
+head_in h = cond (head_test [] h) (Some (row_held h)) None
+
+abbrev pub head_held : List (List ℤ) → Head
+head_held rows = row_held (only rows)
+
+abbrev pub ends_held : List (List ℤ) → ArrayVec ℕ
+ends_held rows = record { items = map end_of rows }
+
+abbrev pub readings_held : List (List ℤ) → ArrayVec (Option ℤ)
+readings_held rows = record { items = map reading_of rows }
+
+abbrev pub sheet_held : Sheet → SheetRead
+sheet_held sh =
     record {
-      number = 0;
-      line = 0;
-      step = nat_abs (nth zs 0);
-      process = nat_abs (nth zs 1);
-      measurement = nat_abs (nth zs 2);
-      stages = nat_abs (nth zs 3);
-      readings = nat_abs (nth zs 4);
-    }
-
-abbrev pub head_held : Verdict (List (List ℤ)) → Head
-head_held (refused n l) = no_head n l
-head_held (given rows) = row_held (only rows)
-
--- ---- the stages' ends
-
-abbrev pub no_ends : ℕ → ℕ → Ends
-no_ends n l = record { number = n; line = l; ends = replicate 32 0 }
-
-abbrev pub these_ends : List ℕ → Ends
-these_ends es = record { number = 0; line = 0; ends = es }
-
-abbrev pub ends_held : Verdict (List (List ℤ)) → Ends
-ends_held r = filled no_ends these_ends end_of (replicate 32 0) 0 r
-
--- ---- the readings
-
-abbrev pub no_reading : Reading
-no_reading = record { taken = false; metres = whole_of (pos 0) }
-
-abbrev pub reading_held : Option ℤ → Reading
-reading_held none = no_reading
-reading_held (some z) = record { taken = true; metres = whole_of z }
-
-abbrev pub no_readings : ℕ → ℕ → Readings
-no_readings n l = record { number = n; line = l; readings = replicate 64 no_reading }
-
-abbrev pub these_readings : List Reading → Readings
-these_readings rs = record { number = 0; line = 0; readings = rs }
-
-abbrev pub readings_held : Verdict (List (List ℤ)) → Readings
-readings_held r = filled no_readings these_readings (λ zs. reading_held (reading_of zs)) (replicate 64 no_reading) 0 r
-
--- ---- the sheet
-
-abbrev pub no_sheet : ℕ → ℕ → SheetRead
-no_sheet n l =
-    record { number = n; line = l; step = 0; process = 0; measurement = 0; stages = 0; count = 0; ends = replicate 32 0; readings = replicate 64 no_reading }
-
-abbrev pub this_sheet : Sheet → SheetRead
-this_sheet sh =
-    record {
-      number = 0;
-      line = 0;
       step = sh.step;
       process = sh.process;
       measurement = sh.measurement;
-      stages = length sh.ends;
-      count = length sh.readings;
-      ends = pad_to 32 0 sh.ends;
-      readings = pad_to 64 no_reading (map reading_held sh.readings);
+      ends = record { items = sh.ends };
+      readings = record { items = sh.readings };
     }
 
-abbrev pub sheet_held : Verdict Sheet → SheetRead
-sheet_held (refused n l) = no_sheet n l
-sheet_held (given sh) = this_sheet sh
+-- a stage's end, where it is in range and above the one before
+abbrev pub end_held : ℕ → ℤ → Option ℕ
+end_held before end = cond (end_in_range before end) (Some (nat_abs end)) None
+
+-- what a line's kind and metres say, where they are in range
+abbrev pub reading_held : ℤ → ℤ → Option (Option ℤ)
+reading_held kind metres = cond (reading_in_range kind metres) (Some (reading_of (kind ∷ metres ∷ []))) None

@@ -1,135 +1,67 @@
 // The stages' ends and the readings of a sheet, each read line by line.
 ghost use Rattle.std.specs.Prelude.{◌≡◌, ◌≤◌, []};
-ghost use Rattle.sheets.specs.Sheet.{reading_in_range, reading_test, read_ends};
+ghost use Rattle.sheets.specs.Sheet.{reading_test, read_ends};
 ghost use Rattle.sheets.specs.Line.{read_lines};
-ghost use Rattle.sheet_text.specs.Held.{number_of};
-ghost use Rattle.sheet_reader.specs.Held.{no_ends, no_readings, ends_held, readings_held};
+ghost use Rattle.sheets.specs.Verdict.{mapped};
+ghost use Rattle.sheet_reader.specs.Held.{end_held, ends_held, reading_held, readings_held};
 
-use crate::Reading;
-use crate::lines::{one_at, two_at};
-use sheet_text::{Whole, in_range};
+use crate::lines::{at_line, line};
+use answer::Refusal;
+use arrayvec::ArrayVec;
+use sheets::SheetRefusal;
 
-// `number` is a refusal's, on that line, or 0.
-#[derive(Clone, Copy)]
-pub struct Ends {
-    pub number: u32,
-    pub line: u32,
-    pub ends: [u32; 32],
-}
-
-#[derive(Clone, Copy)]
-pub struct Readings {
-    pub number: u32,
-    pub line: u32,
-    pub readings: [Reading; 64],
-}
-
-fn no_ends(number: u32, line: u32) -> Ends
-    ensures { result ≡ no_ends number line }
+// A stage's end, where it is in range and above the one before.
+fn end_above(before: u32, end: i64) -> Option<u32>
+    ensures { result ≡ end_held before end }
 {
-    Ends {
-        number,
-        line,
-        ends: [0u32; 32],
+    match u32::try_from(end) {
+        Ok(end @ 1..=9999999) if before < end => Some(end),
+        _ => None,
     }
 }
 
 // The ends of n stages.
-pub(crate) fn read_ends(s: &[u8], n: usize) -> Ends
+pub(crate) fn read_ends(s: &[u8], n: usize) -> Result<ArrayVec<u32, 32>, SheetRefusal>
     requires { n ≤ 32 }
-    ensures { result ≡ ends_held (read_ends n s.now) }
+    ensures { result ≡ mapped ends_held (read_ends n s.now) }
 {
-    let mut e = [0u32; 32];
-    let mut before: u32 = 0;
-    let mut i: usize = 0;
-    while i < n {
-        let at = 41 + 9 * i;
-        let line = one_at(s, at);
-        if !line.formed {
-            return no_ends(7, 2 + (i as u32));
-        }
-        let w = line.value;
-        if !in_range(w, 1, 9999999) {
-            return no_ends(8, 2 + (i as u32));
-        }
-        if w.size <= before {
-            return no_ends(8, 2 + (i as u32));
-        }
-        e[i] = w.size;
-        before = w.size;
-        i += 1;
+    let mut ends = ArrayVec::new();
+    let mut before = 0;
+    for i in 0..n {
+        let number = 2 + i as u32;
+        let [end] = line::<1>(s, 41 + 9 * i).ok_or(at_line(Refusal::BadForm, number))?;
+        before = end_above(before, end).ok_or(at_line(Refusal::OutOfRange, number))?;
+        ends.push(before);
     }
-    Ends {
-        number: 0,
-        line: 0,
-        ends: e,
+    Ok(ends)
+}
+
+// What a line's kind and metres say, where they are in range.
+fn reading(kind: i64, metres: i64) -> Option<Option<i64>>
+    ensures { result ≡ reading_held kind metres }
+{
+    match (kind, metres) {
+        (0, 0) => Some(None),
+        (1, -9999999..=9999999) => Some(Some(metres)),
+        _ => None,
     }
 }
 
-fn is_reading(kind: Whole, metres: Whole) -> bool
-    ensures { result ≡ reading_in_range (number_of kind) (number_of metres) }
-{
-    if !in_range(kind, 0, 1) {
-        return false;
-    }
-    if 9999999 < metres.size {
-        return false;
-    }
-    if in_range(kind, 1, 1) {
-        return true;
-    }
-    metres.size == 0
-}
-
-fn no_readings(number: u32, line: u32) -> Readings
-    ensures { result ≡ no_readings number line }
-{
-    let none = Reading {
-        taken: false,
-        metres: Whole {
-            below: false,
-            size: 0,
-        },
-    };
-    Readings {
-        number,
-        line,
-        readings: [none; 64],
-    }
-}
-
-// n readings, the first on line `first`, which begins at byte `from`.
-pub(crate) fn read_readings(s: &[u8], first: u32, from: usize, n: usize) -> Readings
+// n readings, the first of which stands on line `first` of the sheet and at byte `from`.
+pub(crate) fn read_readings(
+    s: &[u8],
+    first: u32,
+    from: usize,
+    n: usize,
+) -> Result<ArrayVec<Option<i64>, 64>, SheetRefusal>
     requires { (first ≤ 34) × (from ≤ 329) × (n ≤ 64) }
-    ensures { result ≡ readings_held (read_lines 2 reading_test n [] first from s.now) }
+    ensures { result ≡ mapped readings_held (read_lines 2 reading_test n [] first from s.now) }
 {
-    let none = Reading {
-        taken: false,
-        metres: Whole {
-            below: false,
-            size: 0,
-        },
-    };
-    let mut e = [none; 64];
-    let mut i: usize = 0;
-    while i < n {
-        let at = from + 17 * i;
-        let line = two_at(s, at);
-        if !line.formed {
-            return no_readings(7, first + (i as u32));
-        }
-        let kind = line.first;
-        let metres = line.second;
-        if !is_reading(kind, metres) {
-            return no_readings(8, first + (i as u32));
-        }
-        let taken = in_range(kind, 1, 1);
-        e[i] = Reading { taken, metres };
-        i += 1;
+    let mut readings = ArrayVec::new();
+    for i in 0..n {
+        let number = first + i as u32;
+        let [kind, metres] = line::<2>(s, from + 17 * i).ok_or(at_line(Refusal::BadForm, number))?;
+        readings.push(reading(kind, metres).ok_or(at_line(Refusal::OutOfRange, number))?);
     }
-    Readings {
-        number: 0,
-        line: 0,
-        readings: e,
-    }
+    Ok(readings)
 }

@@ -1,40 +1,16 @@
--- The code's three tests of a position, by the size m * up e / down e of a float. Assumes nothing.
-use Rattle.std.proofs.Common.{◌≡◌, ℕ, zero, suc, ◌+◌, ◌*◌, ◌≤◌, Bool, true, false, ◌&&◌, ◌||◌, T, eqb, ltb, leb, ℤ, pos, sym, refl, subst, zero-mul, mul-one, arith, ltb-false, ltb-true, lt-ltb, eqb-true, le-leb}
-use mathlib.Core.Option.{none, some}
-use lib.Ieee.{Float, fin, up, down, lt, eq, le, below, level}
+-- The code's two tests of a position, by the size m * up e / down e of a float. Assumes nothing.
+use Rattle.std.proofs.Common.{◌≡◌, ℕ, zero, suc, ◌+◌, ◌*◌, ◌≤◌, Bool, true, false, ◌&&◌, ◌||◌, T, eqb, ltb, leb, ℤ, pos, sym, refl, subst, mul-one, arith, ltb-false, ltb-true, lt-ltb, eqb-true, le-leb}
+use Rattle.std.specs.Prelude.{None, Some}
+use lib.Ieee.{Float, fin, up, down, lt, eq, le}
 use lib.Ieee.Fits.{down_pos}
 use borrow.Author.Tests.{eqb-false, lt-leb}
-use Rattle.sheets.specs.Metres.{signed}
-use Rattle.sheets.specs.Metres.{keep}
-
-abbrev pub zero_f : Float
-zero_f = fin false 0 (pos 0)
+use Rattle.sheets.specs.Metres.{signed, keep}
 
 abbrev pub big_f : Float
 big_f = fin false 78125 (pos 7)
 
 abbrev pub low_f : Float
 low_f = fin true 9999999 (pos 0)
-
--- ---- the three tests, by the size a / d of a number
-
-and_true : (b : Bool) → (b && true) ≡ b
-and_true true = refl
-and_true false = refl
-
-unfoldable pub zero_le : Bool → ℕ → Bool
-zero_le false a = true
-zero_le true a = eqb 0 a
-
-pub le_zero : (s : Bool) (m : ℕ) (e : ℤ) → le zero_f (fin s m e) ≡ zero_le s (m * up e)
-unfolding le lt eq zero_le
-le_zero s m e = rw (zero-mul (down e), mul-one (m * up e)) (go s (m * up e))
-  where
-    go : (t : Bool) (a : ℕ) → (below false 0 t a || level false 0 t a) ≡ zero_le t a
-    go false zero = refl
-    go false (suc a) = rw (lt-ltb 0 (suc a) (omega arith))
-    go true zero = refl
-    go true (suc a) = and_true (eqb 0 (suc a))
 
 unfoldable pub under_big : Bool → ℕ → ℕ → Bool
 under_big false a d = ltb a (10000000 * d)
@@ -65,9 +41,13 @@ low_le true m e = rw (mul-one (m * up e)) (go (9999999 * down e) (m * up e))
 pub no : {A : Type 0} → ◌≡◌ {A = Bool} true false → A
 no e = let z : ◌≡◌ {A = ℕ} 0 1 = cc in absurd (omega arith)
 
-pub far-below : (n : ℕ) → 10000000 ≤ n → keep (some (signed true n)) ≡ none
+pub far-below : (n : ℕ) → 10000000 ≤ n → keep (Some (signed true n)) ≡ None
 far-below zero h = absurd (omega arith)
 far-below (suc n) h = rw (lt-leb (suc n) 9999999 h)
+
+pub near-below : (n : ℕ) → n ≤ 9999999 → keep (Some (signed true n)) ≡ Some (signed true n)
+near-below zero h = refl
+near-below (suc n) h = rw (le-leb (suc n) 9999999 h)
 
 pub holds : (b : Bool) → b ≡ true → T b
 holds b e = subst T (sym e) tt

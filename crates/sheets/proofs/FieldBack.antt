@@ -2,7 +2,7 @@
 use mathlib.Core.Path.{◌≡◌, refl, sym, ap, ◌∙◌}
 use mathlib.Core.Bool.{Bool, true, false, ◌||◌}
 use mathlib.Core.List.{◌∷◌}
-use mathlib.Core.Option.{some}
+use Rattle.std.specs.Prelude.{Some}
 use Prim.Native.Nat.{ℕ, zero, suc, ◌+◌, ◌-◌, ◌*◌, ◌/◌, ◌%◌, ◌^◌, ◌≤◌, ◌<◌}
 use native.Mathlib.Omega.{arith}
 use lib.IntN.{ℤ, pos, negsuc}
@@ -72,7 +72,7 @@ module _ (s : Bool) (m : ℕ) where
   not_zero zero r h e = refl
   not_zero (suc k) r h e = let d = first_digit k r h in absurd (omega arith)
 
-  read_full : (k : ℕ) → reaches k m ≡ true → m < 10 ^ suc k → read_digits (columns s (suc k) m) ≡ some m
+  read_full : (k : ℕ) → reaches k m ≡ true → m < 10 ^ suc k → read_digits (columns s (suc k) m) ≡ Some m
   unfolding read_digits columns
   read_full k r h =
       let full : (j : ℕ) → j < suc k → reaches j m ≡ true = λ j l. reaches-down j k m (omega arith) r in
@@ -88,17 +88,17 @@ module _ (s : Bool) (m : ℕ) where
     rw (column_digit s k m r) (ne_eqb (48 + m / 10 ^ k % 10) 45 (λ e. omega arith)),
   )
 
-read_plain : (k m : ℕ) → m < 10 ^ k → 0 < k → read_field (columns false k m) ≡ some (pos m)
+read_plain : (k m : ℕ) → m < 10 ^ k → 0 < k → read_field (columns false k m) ≡ Some (pos m)
 unfolding read_field columns
 read_plain zero m h p = absurd (omega arith)
 read_plain (suc k) m h p = go (reaches k m) refl (read_plain k m)
   where
-    go : (t : Bool) → reaches k m ≡ t → (m < 10 ^ k → 0 < k → read_field (columns false k m) ≡ some (pos m)) → read_field (column false k m ∷ columns false k m) ≡ some (pos m)
-    go true r ih = let d : read_digits (column false k m ∷ columns false k m) ≡ some m = read_full false m k r h in
+    go : (t : Bool) → reaches k m ≡ t → (m < 10 ^ k → 0 < k → read_field (columns false k m) ≡ Some (pos m)) → read_field (column false k m ∷ columns false k m) ≡ Some (pos m)
+    go true r ih = let d : read_digits (column false k m ∷ columns false k m) ≡ Some m = read_full false m k r h in
         rw ((digit_column false m k r).0, (digit_column false m k r).1, d)
     go false r ih = rw (column_space false k m r refl, ih (not_reached k m r).1 (not_reached k m r).0)
 
-read_below : (k n : ℕ) → suc n < 10 ^ k → read_field (columns true (suc k) (suc n)) ≡ some (negsuc n)
+read_below : (k n : ℕ) → suc n < 10 ^ k → read_field (columns true (suc k) (suc n)) ≡ Some (negsuc n)
 unfolding read_field columns
 read_below zero n h = absurd (omega arith)
 read_below (suc k) n h = go (reaches k (suc n)) refl (read_below k n)
@@ -109,14 +109,14 @@ read_below (suc k) n h = go (reaches k (suc n)) refl (read_below k n)
     p : suc k - 1 ≡ k
     p = omega arith
 
-    go : (t : Bool) → reaches k (suc n) ≡ t → (suc n < 10 ^ k → read_field (column true k (suc n) ∷ columns true k (suc n)) ≡ some (negsuc n))
-        → read_field (column true (suc k) (suc n) ∷ column true k (suc n) ∷ columns true k (suc n)) ≡ some (negsuc n)
-    go true q ih = let d : read_digits (column true k (suc n) ∷ columns true k (suc n)) ≡ some (suc n) = read_full true (suc n) k q h in
+    go : (t : Bool) → reaches k (suc n) ≡ t → (suc n < 10 ^ k → read_field (column true k (suc n) ∷ columns true k (suc n)) ≡ Some (negsuc n))
+        → read_field (column true (suc k) (suc n) ∷ column true k (suc n) ∷ columns true k (suc n)) ≡ Some (negsuc n)
+    go true q ih = let d : read_digits (column true k (suc n) ∷ columns true k (suc n)) ≡ Some (suc n) = read_full true (suc n) k q h in
         rw (column-minus true (suc k) (suc n) r refl (rw p q), d)
     go false q ih = rw (column_space true (suc k) (suc n) r (rw p q), ih (not_reached k (suc n) q).1)
 
 -- reading what was written gives it back
-pub field_back : (z : ℤ) → holds z ≡ true → read_field (write_field z) ≡ some z
+pub field_back : (z : ℤ) → holds z ≡ true → read_field (write_field z) ≡ Some z
 unfolding write_field
 field_back (pos m) h = let k = leb-true m 99999999 h in read_plain 8 m (omega arith) (lit< tt)
 field_back (negsuc n) h = let k = leb-true (suc n) 9999999 h in read_below 7 n (omega arith)

@@ -2,7 +2,7 @@
 use mathlib.Core.Path.{◌≡◌, refl, sym, subst}
 use mathlib.Core.Bool.{Bool, true, false, not, ◌&&◌, cond}
 use mathlib.Core.List.{List, [], ◌∷◌}
-use mathlib.Core.Option.{Option, none, some}
+use Rattle.std.specs.Prelude.{Option, None, Some}
 use Prim.Native.Nat.{ℕ, zero, suc, ◌+◌, ◌-◌, ◌*◌, ◌/◌, ◌%◌, ◌^◌, ◌≤◌, ◌<◌}
 use native.Mathlib.Omega.{arith}
 use lib.IntN.{ℤ, pos, negsuc}
@@ -74,12 +74,12 @@ first-reached b bs e h = go (eqb (length bs) 0) (eqb b 48) refl refl e
         let v : 10 ^ length bs ≤ (b - 48) * 10 ^ length bs = rw one-mul at w in
         reaches_le (length bs) _ (omega arith)
 
-read_digits_lem : (ds : List ℕ) (m : ℕ) → read_digits ds ≡ some m → Digits ds m
+read_digits_lem : (ds : List ℕ) (m : ℕ) → read_digits ds ≡ Some m → Digits ds m
 unfolding read_digits
 read_digits_lem [] m e = let z : ◌≡◌ {A = ℕ} 0 1 = cc in absurd (omega arith)
 read_digits_lem (b ∷ bs) m e = go (leading_zero b bs) (all_digits (b ∷ bs)) refl refl e
   where
-    go : (x y : Bool) → leading_zero b bs ≡ x → all_digits (b ∷ bs) ≡ y → cond x none (cond y (some (decimal (b ∷ bs))) none) ≡ some m → Digits (b ∷ bs) m
+    go : (x y : Bool) → leading_zero b bs ≡ x → all_digits (b ∷ bs) ≡ y → cond x None (cond y (Some (decimal (b ∷ bs))) None) ≡ Some m → Digits (b ∷ bs) m
     go true y p q k = let z : ◌≡◌ {A = ℕ} 0 1 = cc in absurd (omega arith)
     go false false p q k = let z : ◌≡◌ {A = ℕ} 0 1 = cc in absurd (omega arith)
     go false true p q k =
@@ -126,29 +126,29 @@ text-plain : (ds : List ℕ) (m : ℕ) → Digits ds m → Text (pos m) ds
 unfolding Text
 text-plain ds m d = (d.text false, d.fits, d.some_digit)
 
-read-text : (f : List ℕ) (z : ℤ) → read_field f ≡ some z → Text z f
+read-text : (f : List ℕ) (z : ℤ) → read_field f ≡ Some z → Text z f
 unfolding read_field
 read-text [] z e = let y : ◌≡◌ {A = ℕ} 0 1 = cc in absurd (omega arith)
 read-text (b ∷ bs) z e = go (eqb b 32) (eqb b 45) refl refl e (read-text bs z)
   where
-    minus : (o : Option ℕ) → read_digits bs ≡ o → negative o ≡ some z → b ≡ 45 → Text z (b ∷ bs)
-    minus none p k y = let q : ◌≡◌ {A = ℕ} 0 1 = cc in absurd (omega arith)
-    minus (some zero) p k y = let q : ◌≡◌ {A = ℕ} 0 1 = cc in absurd (omega arith)
-    minus (some (suc n)) p k y = let q : negsuc n ≡ z = cc in
+    minus : (o : Option ℕ) → read_digits bs ≡ o → negative o ≡ Some z → b ≡ 45 → Text z (b ∷ bs)
+    minus None p k y = let q : ◌≡◌ {A = ℕ} 0 1 = cc in absurd (omega arith)
+    minus (Some zero) p k y = let q : ◌≡◌ {A = ℕ} 0 1 = cc in absurd (omega arith)
+    minus (Some (suc n)) p k y = let q : negsuc n ≡ z = cc in
         subst (λ (w : ℤ). Text w (b ∷ bs)) q (rw y (text-minus bs n (read_digits_lem bs (suc n) p)))
 
-    plain' : (o : Option ℕ) → read_digits (b ∷ bs) ≡ o → positive o ≡ some z → Text z (b ∷ bs)
-    plain' none p k = let q : ◌≡◌ {A = ℕ} 0 1 = cc in absurd (omega arith)
-    plain' (some m) p k = let q : pos m ≡ z = cc in subst (λ (w : ℤ). Text w (b ∷ bs)) q (text-plain (b ∷ bs) m (read_digits_lem (b ∷ bs) m p))
+    plain' : (o : Option ℕ) → read_digits (b ∷ bs) ≡ o → positive o ≡ Some z → Text z (b ∷ bs)
+    plain' None p k = let q : ◌≡◌ {A = ℕ} 0 1 = cc in absurd (omega arith)
+    plain' (Some m) p k = let q : pos m ≡ z = cc in subst (λ (w : ℤ). Text w (b ∷ bs)) q (text-plain (b ∷ bs) m (read_digits_lem (b ∷ bs) m p))
 
-    go : (x y : Bool) → eqb b 32 ≡ x → eqb b 45 ≡ y → cond x (read_field bs) (cond y (negative (read_digits bs)) (positive (read_digits (b ∷ bs)))) ≡ some z
-        → (read_field bs ≡ some z → Text z bs) → Text z (b ∷ bs)
+    go : (x y : Bool) → eqb b 32 ≡ x → eqb b 45 ≡ y → cond x (read_field bs) (cond y (negative (read_digits bs)) (positive (read_digits (b ∷ bs)))) ≡ Some z
+        → (read_field bs ≡ Some z → Text z bs) → Text z (b ∷ bs)
     go true y p q k ih = rw (eqb-true b 32 p) (text_space bs z (ih k))
     go false true p q k ih = minus (read_digits bs) refl k (eqb-true b 45 q)
     go false false p q k ih = plain' (read_digits (b ∷ bs)) refl k
 
 -- eight bytes that read as a number are the text that is written for it, so two texts of one number are the same
-pub field-one : (f : List ℕ) (z : ℤ) → length f ≡ 8 → read_field f ≡ some z → (f ≡ write_field z) × (holds z ≡ true)
+pub field-one : (f : List ℕ) (z : ℤ) → length f ≡ 8 → read_field f ≡ Some z → (f ≡ write_field z) × (holds z ≡ true)
 unfolding write_field Text
 field-one f (pos m) l e = let t = read-text f (pos m) e in let k : m < 10 ^ 8 = rw l at t.1 in (rw l at (sym t.0), le-leb m 99999999 (omega arith))
 field-one f (negsuc n) l e = let t = read-text f (negsuc n) e in let k : suc n < 10 ^ 7 = rw l at t.1 in (rw l at (sym t.0), le-leb (suc n) 9999999 (omega arith))

@@ -11,7 +11,8 @@ use lib.ListN.{length, take, drop, length-take}
 use lib.Seq.{get_or-take, take-take, take-nil}
 use borrow.Author.Tests.{ltb-true, ltb-false, lt-ltb, le-ltb, eqb-true, eqb-false, eq-eqb, ne_eqb}
 use Rattle.sheets.specs.Field.{read_field}
-use Rattle.sheets.specs.Verdict.{Verdict, refused, given, then}
+use Rattle.std.specs.Prelude.{Ok, Err}
+use Rattle.sheets.specs.Verdict.{Verdict, then}
 use Rattle.sheets.specs.Line.{field_at, fields_read, form, values, read_lines}
 use Rattle.sheets.specs.Sheet.{Rows, head_test, end_test, reading_test, only, stages_of, readings_of, sheet_length, read_head, read_ends, read_readings, read_end, read_rows, read_sheet}
 use Rattle.sheets.specs.Report.{report}
@@ -94,8 +95,8 @@ unfolding read_rows after-head
 rows-front s = rw (lines-front 1418 s 5 head_test 1 [] 1 0 (omega arith)) (go (read_head s) refl)
   where
     go : (r : Verdict (List (List ℤ))) → read_head s ≡ r → then r (λ hs. after-head (take 1418 s) (only hs)) ≡ then r (λ hs. after-head s (only hs))
-    go (refused n l) e = refl
-    go (given hs) e = let c = head-counts s hs e in after_front s (only hs) c.few-stages c.few-readings
+    go (Err w) e = refl
+    go (Ok hs) e = let c = head-counts s hs e in after_front s (only hs) c.few-stages c.few-readings
 
 pub front : (s : List ℕ) → report s ≡ report (take 1418 s)
 unfolding report read_sheet

@@ -3,8 +3,8 @@ pub mod Reading
 pub mod FieldBack
 pub mod FieldOne
 pub mod Verdicts
-pub mod Lines
 pub mod Sound
+pub mod Lines
 pub mod SheetBack
 pub mod SheetOne
 pub mod Counts

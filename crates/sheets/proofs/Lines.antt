@@ -8,8 +8,10 @@ use lib.Dec.{leb, ltb}
 use lib.IntN.{ℤ, pos, negsuc, nat_abs}
 use lib.ListN.{length, get_or}
 use borrow.Author.Tests.{ltb-true, lt-ltb, le-ltb, ne_eqb, eq-eqb, leb-true}
+use Rattle.answer.specs.declared.Refusal.TheVariants.{BadForm, OutOfRange}
 use Rattle.sheets.specs.Verdict.{Verdict, refused, prepend}
-use Rattle.sheets.specs.Line.{field_at, is_some, fields_read, form, values, read_lines, in_range}
+use Rattle.std.specs.Prelude.{is_some}
+use Rattle.sheets.specs.Line.{field_at, fields_read, form, values, read_lines, in_range}
 use Rattle.sheets.proofs.Verdicts.{and_r, and_l, and_false, Long, long-prepend}
 
 -- ---- the form of a line
@@ -54,11 +56,11 @@ range-both lo hi (negsuc n) e = let z : ◌≡◌ {A = ℕ} 0 1 = cc in absurd (
 -- ---- one more line
 
 module _ (k : ℕ) (ok : List ℤ → List ℤ → Bool) (n : ℕ) (before : List ℤ) (l at : ℕ) (s : List ℕ) where
-  pub lines_bad : form k s at ≡ false → read_lines k ok (suc n) before l at s ≡ refused 7 l
+  pub lines_bad : form k s at ≡ false → read_lines k ok (suc n) before l at s ≡ refused BadForm l
   unfolding read_lines
   lines_bad e = rw e
 
-  pub lines-out : form k s at ≡ true → ok before (values k s at) ≡ false → read_lines k ok (suc n) before l at s ≡ refused 8 l
+  pub lines-out : form k s at ≡ true → ok before (values k s at) ≡ false → read_lines k ok (suc n) before l at s ≡ refused OutOfRange l
   unfolding read_lines
   lines-out e h = rw (e, h)
 
@@ -74,7 +76,7 @@ lines_long k ok zero before l at s = refl
 lines_long k ok (suc n) before l at s =
     go (form k s at) (ok before (values k s at)) (read_lines k ok n (values k s at) (l + 1) (at + (8 * k + 1)) s) (lines_long k ok n (values k s at) (l + 1) (at + (8 * k + 1)) s)
   where
-    go : (x y : Bool) (r : Verdict (List (List ℤ))) → Long n r → Long (suc n) (cond x (cond y (prepend (values k s at) r) (refused 8 l)) (refused 7 l))
+    go : (x y : Bool) (r : Verdict (List (List ℤ))) → Long n r → Long (suc n) (cond x (cond y (prepend (values k s at) r) (refused OutOfRange l)) (refused BadForm l))
     go true true r h = long-prepend (values k s at) n r h
     go true false r h = tt
     go false y r h = tt

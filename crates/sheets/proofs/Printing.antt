@@ -1,7 +1,7 @@
 -- The laws of printed lines: how long they are, one more line, and the stages on them. Assumes nothing.
 use mathlib.Core.Path.{◌≡◌, refl, sym, ap}
 use mathlib.Core.List.{List, [], ◌∷◌, ◌++◌, append_assoc, append-nil}
-use mathlib.Core.Option.{Option, none, some}
+use Rattle.std.specs.Prelude.{Option, None, Some}
 use Prim.Native.Nat.{ℕ, suc, ◌+◌, ◌*◌, ◌≤◌}
 use native.Mathlib.Nat.{add-zero}
 use native.Mathlib.Numerals.{add-one}
@@ -63,8 +63,8 @@ metres-long l [] = refl
 metres-long l (x ∷ xs) = go (metres_of x) (all_metres (l + 1) xs) (metres-long (l + 1) xs)
   where
     go : (o : Option ℤ) (r : Verdict (List ℤ)) → Long (length xs) r → Long (suc (length xs)) (or_refused l o r)
-    go none r h = tt
-    go (some z) r h = long-prepend z (length xs) r h
+    go None r h = tt
+    go (Some z) r h = long-prepend z (length xs) r h
 
 -- ---- lines with stages of the sheet's
 

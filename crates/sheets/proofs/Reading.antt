@@ -1,16 +1,17 @@
 -- The laws of reading digits, one after another: what the code that reads a field cites. Assumes nothing.
-use mathlib.Core.Path.{◌≡◌, refl, sym, ◌∙◌, subst}
+use mathlib.Core.Path.{◌≡◌, refl, sym, ◌∙◌}
 use mathlib.Core.Bool.{Bool, true, false, not, ◌&&◌, cond}
-use mathlib.Core.List.{List}
-use mathlib.Core.Option.{none, some}
+use mathlib.Core.List.{List, [], ◌∷◌}
+use Rattle.std.specs.Prelude.{None, Some}
 use Prim.Native.Nat.{ℕ, suc, ◌+◌, ◌-◌, ◌*◌, ◌^◌, ◌≤◌, ◌<◌}
 use native.Mathlib.Nat.{zero-mul, mul-one, mul_assoc, add-mul, zero-add, add-zero, one-le-pow, pow-zero, pow-suc, pow-le-pow_right}
 use native.Mathlib.Numerals.{add-one}
 use native.Mathlib.Omega.{arith}
-use lib.Dec.{eqb}
+use lib.Dec.{eqb, leb}
 use lib.ListN.{length, drop, get_or, length-drop, drop_of_length-le}
 use lib.Seq.{drop-cons}
-use borrow.Author.Tests.{eqb-true, ne_eqb, eq-eqb, lt-leb, le-leb}
+use borrow.Author.Tests.{eqb-true, eq-eqb, le-leb, leb-true}
+use Rattle.sheets.proofs.Verdicts.{and_r}
 use Rattle.sheets.specs.Field.{read_field, read_digits, all_digits, decimal, is_digit, leading_zero}
 
 pub skip_space : (f : List ℕ) (i : ℕ) → i < length f → get_or f i 0 ≡ 32 → read_field (drop i f) ≡ read_field (drop (suc i) f)
@@ -26,14 +27,11 @@ pub good_digit : (f : List ℕ) (i : ℕ) → i < length f → is_digit (get_or 
 unfolding all_digits
 good_digit f i h e = rw (drop-cons f i 0 h, e)
 
-pub low_digit : (b : ℕ) → b < 48 → is_digit b ≡ false
-low_digit b h = rw (lt-leb 48 b h)
-
-pub high_digit : (b : ℕ) → 57 < b → is_digit b ≡ false
-high_digit b h = rw (le-leb 48 b (omega arith), lt-leb b 57 h)
-
 pub is_digit_lem : (b : ℕ) → 48 ≤ b → b ≤ 57 → is_digit b ≡ true
 is_digit_lem b h k = rw (le-leb 48 b h, le-leb b 57 k)
+
+pub digit_small : (b : ℕ) → is_digit b ≡ true → b - 48 ≤ 9
+digit_small b e = let h = leb-true b 57 (and_r (leb 48 b) (leb b 57) e) in omega arith
 
 pub decimal_step : (f : List ℕ) (i k : ℕ) → length f ≡ suc (i + k) → decimal (drop i f) ≡ (get_or f i 0 - 48) * 10 ^ k + decimal (drop (suc i) f)
 unfolding decimal
@@ -49,11 +47,11 @@ more v d p r =
     let b : (10 * v + d) * p ≡ 10 * (v * p) + d * p = add-mul (10 * v) d p ∙ rw (mul_assoc 10 v p) in
     omega (arith, a, b)
 
--- ---- digits from `from` on, read one after another
+-- ---- digits, read one after another
 
--- what reading the digits of a field from `from` on says, when those before i are digits and say v
-abbrev pub Left : List ℕ → ℕ → ℕ → ℕ → Type 0
-Left f from v i = read_digits (drop from f) ≡ cond (all_digits (drop i f)) (some (v * 10 ^ (8 - i) + decimal (drop i f))) none
+-- what reading the digits f says, when those before i are digits and say v
+abbrev pub Left : List ℕ → ℕ → ℕ → Type 0
+Left f v i = read_digits f ≡ cond (all_digits (drop i f)) (Some (v * 10 ^ (length f - i) + decimal (drop i f))) None
 
 pub zero-first : (b : ℕ) (bs : List ℕ) → (b ≡ 48 → length bs ≡ 0) → leading_zero b bs ≡ false
 zero-first b bs h = go (eqb b 48) refl
@@ -62,36 +60,25 @@ zero-first b bs h = go (eqb b 48) refl
     go true e = rw (eq-eqb (length bs) 0 (h (eqb-true b 48 e)))
     go false e = refl
 
-pub left-start : (f : List ℕ) (from : ℕ) → length f ≡ 8 → from < 8 → (get_or f from 0 ≡ 48 → from ≡ 7) → Left f from 0 from
+pub left-start : (f : List ℕ) → 0 < length f → (get_or f 0 0 ≡ 48 → length f ≡ 1) → Left f 0 0
 unfolding read_digits
-left-start f from l h k =
-    let g : from < length f = omega arith in
-    let e : length (drop (suc from) f) ≡ 7 - from = length-drop (suc from) f ∙ omega arith in
-    rw (zero-mul, zero-add, drop-cons f from 0 g, zero-first (get_or f from 0) (drop (suc from) f) (λ z. e ∙ (let q : from ≡ 7 = k z in omega arith)))
+left-start [] h k = absurd (omega arith)
+left-start (b ∷ bs) h k = rw (zero-mul, zero-add, zero-first b bs (λ z. let q : suc (length bs) ≡ 1 = k z in omega arith))
 
-pub left-zero : (f : List ℕ) (from : ℕ) → length f ≡ 8 → from < 7 → get_or f from 0 ≡ 48 → read_digits (drop from f) ≡ none
-unfolding read_digits
-left-zero f from l h z =
-    let g : from < length f = omega arith in
-    let e : length (drop (suc from) f) ≡ 7 - from = length-drop (suc from) f ∙ omega arith in
-    rw (drop-cons f from 0 g, z, e, ne_eqb (7 - from) 0 (λ q. omega arith))
+pub left_bad : (f : List ℕ) (v i : ℕ) → i < length f → is_digit (get_or f i 0) ≡ false → Left f v i → read_digits f ≡ None
+left_bad f v i h e q = q ∙ rw (bad_digit f i h e)
 
-pub left_bad : (f : List ℕ) (from v i : ℕ) → i < length f → is_digit (get_or f i 0) ≡ false → Left f from v i → read_digits (drop from f) ≡ none
-left_bad f from v i h e q = q ∙ rw (bad_digit f i h e)
+pub left_step : (f : List ℕ) (v i : ℕ) → i < length f → is_digit (get_or f i 0) ≡ true → Left f v i → Left f (10 * v + (get_or f i 0 - 48)) (i + 1)
+left_step f v i g e q =
+    let k : length f - i ≡ suc (length f - suc i) = omega arith in
+    let d : decimal (drop i f) ≡ (get_or f i 0 - 48) * 10 ^ (length f - suc i) + decimal (drop (suc i) f) = decimal_step f i (length f - suc i) (omega arith) in
+    q ∙ rw (good_digit f i g e, d, k, pow-suc 10 (length f - suc i), more v (get_or f i 0 - 48) (10 ^ (length f - suc i)) (decimal (drop (suc i) f)), add-one)
 
-pub left_step : (f : List ℕ) (from v i : ℕ) → length f ≡ 8 → i < 8 → 48 ≤ get_or f i 0 → get_or f i 0 ≤ 57 → Left f from v i → Left f from (10 * v + (get_or f i 0 - 48)) (i + 1)
-left_step f from v i l h lo hi q =
-    let g : i < length f = omega arith in
-    let k : 8 - i ≡ suc (7 - i) = omega arith in
-    let m : 8 - (i + 1) ≡ 7 - i = omega arith in
-    let d : decimal (drop i f) ≡ (get_or f i 0 - 48) * 10 ^ (7 - i) + decimal (drop (suc i) f) = decimal_step f i (7 - i) (omega arith) in
-    q ∙ rw (good_digit f i g (is_digit_lem (get_or f i 0) lo hi), d, k, m, pow-suc 10 (7 - i), more v (get_or f i 0 - 48) (10 ^ (7 - i)) (decimal (drop (suc i) f)), add-one)
-
-pub left_end : (f : List ℕ) (from v i : ℕ) → length f ≡ 8 → 8 ≤ i → Left f from v i → read_digits (drop from f) ≡ some v
+pub left_end : (f : List ℕ) (v i : ℕ) → length f ≤ i → Left f v i → read_digits f ≡ Some v
 unfolding all_digits decimal
-left_end f from v i l h q =
-    let k : 8 - i ≡ 0 = omega arith in
-    q ∙ rw (drop_of_length-le f (subst (λ (n : ℕ). n ≤ i) (sym l) h), k, pow-zero 10, mul-one, add-zero)
+left_end f v i h q =
+    let k : length f - i ≡ 0 = omega arith in
+    q ∙ rw (drop_of_length-le f h, k, pow-zero 10, mul-one, add-zero)
 
 -- ---- i digits say less than 10 ^ i
 

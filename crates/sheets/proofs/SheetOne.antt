@@ -2,7 +2,7 @@
 use mathlib.Core.Path.{◌≡◌, refl, sym, ap, ◌∙◌}
 use mathlib.Core.Bool.{Bool, true, false, cond}
 use mathlib.Core.List.{List, [], ◌∷◌, ◌++◌}
-use mathlib.Core.Option.{Option, none, some}
+use Rattle.std.specs.Prelude.{Option, None, Some, is_some, Ok}
 use Prim.Native.Nat.{ℕ, zero, suc, ◌+◌, ◌*◌, ◌≤◌, ◌<◌}
 use native.Mathlib.Nat.{mul-zero, mul-suc, add_comm}
 use native.Mathlib.Omega.{arith}
@@ -12,8 +12,9 @@ use lib.ListN.{length, take, drop, get_or, length-take, length-drop, take-append
 use lib.Seq.{take-add, drop-drop, drop-cons, take_all}
 use borrow.Author.Tests.{ltb-true, eqb-true}
 use Rattle.sheets.specs.Field.{write_field}
-use Rattle.sheets.specs.Verdict.{refused, given, prepend}
-use Rattle.sheets.specs.Line.{field_at, is_some, or_zero, fields_read, form, values, read_lines}
+use Rattle.answer.specs.declared.Refusal.TheVariants.{BadForm, OutOfRange}
+use Rattle.sheets.specs.Verdict.{refused, prepend}
+use Rattle.sheets.specs.Line.{field_at, or_zero, fields_read, form, values, read_lines}
 use Rattle.sheets.specs.Sheet.{Rows, head_test, end_test, reading_test, stages_of, readings_of, only, sheet_length, read_head, read_ends, read_readings, read_rows}
 use Rattle.sheets.specs.Output.{line_text}
 use Rattle.sheets.specs.Texts.{Texts, lines_text, sheet_text}
@@ -30,8 +31,8 @@ field_at_one s at h e = go (field_at s at) refl e
     l = rw (length-take 8 (drop at s), length-drop at s) (omega arith)
 
     go : (o : Option ℤ) → field_at s at ≡ o → is_some o ≡ true → take 8 (drop at s) ≡ write_field (or_zero o)
-    go none p q = let z : ◌≡◌ {A = ℕ} 0 1 = cc in absurd (omega arith)
-    go (some z) p q = (field-one (take 8 (drop at s)) z l p).0
+    go None p q = let z : ◌≡◌ {A = ℕ} 0 1 = cc in absurd (omega arith)
+    go (Some z) p q = (field-one (take 8 (drop at s)) z l p).0
 
 fields-one : (k : ℕ) (s : List ℕ) (at : ℕ) → at + 8 * k ≤ length s → fields_read k s at ≡ true → take (8 * k) (drop at s) ≡ bare (values k s at)
 unfolding fields_read values bare
@@ -53,7 +54,7 @@ line-one k s at e =
     let t : take 1 (drop (at + 8 * k) s) ≡ 10 ∷ [] = rw (drop-cons s (at + 8 * k) 0 h, b) in
     take-add (8 * k) 1 (drop at s) ∙ rw (drop-drop (8 * k) at s, t, f) (sym (line-bare (values k s at)))
 
-lines-one : (k : ℕ) (ok : List ℤ → List ℤ → Bool) (n : ℕ) (before : List ℤ) (l at : ℕ) (s : List ℕ) (rows : List (List ℤ)) → read_lines k ok n before l at s ≡ given rows
+lines-one : (k : ℕ) (ok : List ℤ → List ℤ → Bool) (n : ℕ) (before : List ℤ) (l at : ℕ) (s : List ℕ) (rows : List (List ℤ)) → read_lines k ok n before l at s ≡ Ok rows
     → take ((8 * k + 1) * n) (drop at s) ≡ lines_text rows
 unfolding read_lines lines_text
 lines-one k ok zero before l at s rows e =
@@ -63,8 +64,8 @@ lines-one k ok (suc n) before l at s rows e =
     go (form k s at) (ok before (values k s at)) refl e (lines-one k ok n (values k s at) (l + 1) (at + (8 * k + 1)) s)
   where
     go : (x y : Bool) → form k s at ≡ x
-        → cond x (cond y (prepend (values k s at) (read_lines k ok n (values k s at) (l + 1) (at + (8 * k + 1)) s)) (refused 8 l)) (refused 7 l) ≡ given rows
-        → ((more : List (List ℤ)) → read_lines k ok n (values k s at) (l + 1) (at + (8 * k + 1)) s ≡ given more → take ((8 * k + 1) * n) (drop (at + (8 * k + 1)) s) ≡ lines_text more)
+        → cond x (cond y (prepend (values k s at) (read_lines k ok n (values k s at) (l + 1) (at + (8 * k + 1)) s)) (refused OutOfRange l)) (refused BadForm l) ≡ Ok rows
+        → ((more : List (List ℤ)) → read_lines k ok n (values k s at) (l + 1) (at + (8 * k + 1)) s ≡ Ok more → take ((8 * k + 1) * n) (drop (at + (8 * k + 1)) s) ≡ lines_text more)
         → take ((8 * k + 1) * suc n) (drop at s) ≡ lines_text rows
     go true true p q ih =
         let (more, u, v) = prepend-given (values k s at) _ rows q in
@@ -85,7 +86,7 @@ three s a b c l =
     rw (x, y) (sym (take-append-drop a s))
 
 -- a sheet that reads is the one that is written for what was read
-pub sheet-one : (s : List ℕ) (r : Rows) → read_rows s ≡ given r → s ≡ sheet_text r
+pub sheet-one : (s : List ℕ) (r : Rows) → read_rows s ≡ Ok r → s ≡ sheet_text r
 unfolding read_rows sheet_text
 sheet-one s r e =
     let (hs, p, q) = then-given (read_head s) _ r e in
@@ -94,7 +95,7 @@ sheet-one s r e =
     let co = readings_of h in
     let (es, p2, q2) = then-given (read_ends st s) _ r q in
     let (rs, p3, q3) = then-given (read_readings st co s) _ r q2 in
-    let g = cond-given (eqb (length s) (sheet_length st co)) _ r 7 _ q3 in
+    let g = cond-given (eqb (length s) (sheet_length st co)) _ r _ q3 in
     let l : length s ≡ 41 + 9 * st + 17 * co = eqb-true _ _ g.0 in
     let o : hs ≡ h ∷ [] = one-row hs (given-long 1 (read_head s) hs (lines_long 5 head_test 1 [] 1 0 s) p) in
     let a : take 41 s ≡ lines_text (h ∷ []) = lines-one 5 head_test 1 [] 1 0 s hs p ∙ ap lines_text o in

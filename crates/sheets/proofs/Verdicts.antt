@@ -3,9 +3,10 @@ use mathlib.Core.Path.{◌≡◌, refl, ap, subst}
 use mathlib.Core.Bool.{Bool, true, false, ◌&&◌, cond}
 use mathlib.Core.List.{List, ◌∷◌}
 use Prim.Native.Nat.{ℕ, suc}
-use native.Mathlib.Omega.{arith}
 use lib.ListN.{length}
-use Rattle.sheets.specs.Verdict.{Verdict, refused, given, then, mapped, prepend}
+use Rattle.std.specs.Prelude.{Ok, Err}
+use Rattle.sheets.specs.declared.SheetRefusal.{SheetRefusal}
+use Rattle.sheets.specs.Verdict.{Verdict, then, mapped, prepend}
 
 -- ---- tests
 
@@ -15,7 +16,7 @@ and_l false b e = e
 
 pub and_r : (a b : Bool) → (a && b) ≡ true → b ≡ true
 and_r true b e = e
-and_r false b e = let z : ◌≡◌ {A = ℕ} 0 1 = cc in absurd (omega arith)
+and_r false b e = cc
 
 pub and_left : (a b : Bool) → a ≡ false → (a && b) ≡ false
 and_left a b e = rw e
@@ -29,33 +30,33 @@ and_false false b e = refl
 
 -- ---- verdicts
 
-pub then-given : {A B : Type 0} (r : Verdict A) (f : A → Verdict B) (b : B) → then r f ≡ given b → (a : A) × (r ≡ given a) × (f a ≡ given b)
-then-given (refused n l) f b e = let z : ◌≡◌ {A = ℕ} 0 1 = cc in absurd (omega arith)
-then-given (given a) f b e = (a, refl, e)
+pub then-given : {A B : Type 0} (r : Verdict A) (f : A → Verdict B) (b : B) → then r f ≡ Ok b → (a : A) × (r ≡ Ok a) × (f a ≡ Ok b)
+then-given (Err w) f b e = cc
+then-given (Ok a) f b e = (a, refl, e)
 
-pub mapped-given : {A B : Type 0} (f : A → B) (r : Verdict A) (b : B) → mapped f r ≡ given b → (a : A) × (r ≡ given a) × (f a ≡ b)
-mapped-given f (refused n l) b e = let z : ◌≡◌ {A = ℕ} 0 1 = cc in absurd (omega arith)
-mapped-given f (given a) b e = (a, refl, cc)
+pub mapped-given : {A B : Type 0} (f : A → B) (r : Verdict A) (b : B) → mapped f r ≡ Ok b → (a : A) × (r ≡ Ok a) × (f a ≡ b)
+mapped-given f (Err w) b e = cc
+mapped-given f (Ok a) b e = (a, refl, cc)
 
-pub cond-given : {A : Type 0} (t : Bool) (a b : A) (n l : ℕ) → cond t (given a) (refused n l) ≡ given b → (t ≡ true) × (a ≡ b)
-cond-given true a b n l e = (refl, cc)
-cond-given false a b n l e = let z : ◌≡◌ {A = ℕ} 0 1 = cc in absurd (omega arith)
+pub cond-given : {A : Type 0} (t : Bool) (a b : A) (w : SheetRefusal) → cond t (Ok a) (Err w) ≡ Ok b → (t ≡ true) × (a ≡ b)
+cond-given true a b w e = (refl, cc)
+cond-given false a b w e = cc
 
-pub prepend-given : {A : Type 0} (a : A) (r : Verdict (List A)) (rows : List A) → prepend a r ≡ given rows → (more : List A) × (r ≡ given more) × (a ∷ more ≡ rows)
-prepend-given a (refused n l) rows e = let z : ◌≡◌ {A = ℕ} 0 1 = cc in absurd (omega arith)
-prepend-given a (given more) rows e = (more, refl, cc)
+pub prepend-given : {A : Type 0} (a : A) (r : Verdict (List A)) (rows : List A) → prepend a r ≡ Ok rows → (more : List A) × (r ≡ Ok more) × (a ∷ more ≡ rows)
+prepend-given a (Err w) rows e = cc
+prepend-given a (Ok more) rows e = (more, refl, cc)
 
 -- ---- n rows, where any are given
 
 unfoldable pub Long : {A : Type 0} → ℕ → Verdict (List A) → Type 0
-Long n (refused m l) = Unit {0}
-Long n (given rows) = length rows ≡ n
+Long n (Err w) = Unit {0}
+Long n (Ok rows) = length rows ≡ n
 
 pub long-prepend : {A : Type 0} (a : A) (n : ℕ) (r : Verdict (List A)) → Long n r → Long (suc n) (prepend a r)
 unfolding Long
-long-prepend a n (refused m l) h = tt
-long-prepend a n (given rows) h = ap suc h
+long-prepend a n (Err w) h = tt
+long-prepend a n (Ok rows) h = ap suc h
 
-pub given-long : {A : Type 0} (n : ℕ) (r : Verdict (List A)) (rows : List A) → Long n r → r ≡ given rows → length rows ≡ n
+pub given-long : {A : Type 0} (n : ℕ) (r : Verdict (List A)) (rows : List A) → Long n r → r ≡ Ok rows → length rows ≡ n
 unfolding Long
 given-long n r rows h e = subst (λ x. Long n x) e h

@@ -1,6 +1,5 @@
 -- The worked cases of the depot sheet: document 01's, whole, and each reading of a point that it leaves open. Statements only.
-use Rattle.std.specs.Prelude.{◌≡◌, true, false, List, [], ◌∷◌, ◌++◌, ℕ, pos, negsuc, Float, take}
-use Rattle.std.proofs.Math.Option.{none, some}
+use Rattle.std.specs.Prelude.{◌≡◌, true, false, List, [], ◌∷◌, ◌++◌, ℕ, pos, negsuc, Float, take, None, Some}
 use Prim.Native.String.{String}
 use Rattle.std.specs.Float.{fin, inf, nan}
 use Rattle.sheets.specs.Text.{bytes, text}
@@ -12,22 +11,22 @@ use Rattle.sheets.specs.Report.{report}
 -- ---- one field
 
 pub record Fields : Type 0 where
-  pub plain : read_field (bytes "     400") ≡ some (pos 400)
-  pub below-zero : read_field (bytes "    -400") ≡ some (negsuc 399)
-  pub zero : read_field (bytes "       0") ≡ some (pos 0)
-  pub widest : read_field (bytes "99999999") ≡ some (pos 99999999)
-  pub minus-zero : read_field (bytes "      -0") ≡ none
-  pub two-zeros : read_field (bytes "      00") ≡ none
-  pub leading_zero : read_field (bytes "      05") ≡ none
-  pub plus : read_field (bytes "      +5") ≡ none
-  pub lone_minus : read_field (bytes "       -") ≡ none
-  pub minus-apart : read_field (bytes "     - 5") ≡ none
-  pub minus_and_zero : read_field (bytes "     -05") ≡ none
-  pub blank : read_field (bytes "        ") ≡ none
-  pub space_after : read_field (bytes "      5 ") ≡ none
-  pub tab : read_field (9 ∷ bytes "      5") ≡ none
-  pub carriage_return : read_field (bytes "      5" ++ (13 ∷ [])) ≡ none
-  pub nul : read_field (0 ∷ bytes "      5") ≡ none
+  pub plain : read_field (bytes "     400") ≡ Some (pos 400)
+  pub below-zero : read_field (bytes "    -400") ≡ Some (negsuc 399)
+  pub zero : read_field (bytes "       0") ≡ Some (pos 0)
+  pub widest : read_field (bytes "99999999") ≡ Some (pos 99999999)
+  pub minus-zero : read_field (bytes "      -0") ≡ None
+  pub two-zeros : read_field (bytes "      00") ≡ None
+  pub leading_zero : read_field (bytes "      05") ≡ None
+  pub plus : read_field (bytes "      +5") ≡ None
+  pub lone_minus : read_field (bytes "       -") ≡ None
+  pub minus-apart : read_field (bytes "     - 5") ≡ None
+  pub minus_and_zero : read_field (bytes "     -05") ≡ None
+  pub blank : read_field (bytes "        ") ≡ None
+  pub space_after : read_field (bytes "      5 ") ≡ None
+  pub tab : read_field (9 ∷ bytes "      5") ≡ None
+  pub carriage_return : read_field (bytes "      5" ++ (13 ∷ [])) ≡ None
+  pub nul : read_field (0 ∷ bytes "      5") ≡ None
   pub written : write_field (negsuc 399) ≡ bytes "    -400"
   pub furthest : write_field (negsuc 9999998) ≡ bytes "-9999999"
 
@@ -41,15 +40,15 @@ abbrev far : Float
 far = fin false 19999999 (negsuc 0)
 
 pub record Places : Type 0 where
-  pub down : metres_of half ≡ some (pos 0)
-  pub down-below-zero : metres_of (fin true 1 (negsuc 0)) ≡ some (negsuc 0)
-  pub minus-zero : metres_of (fin true 0 (pos 0)) ≡ some (pos 0)
-  pub last : metres_of far ≡ some (pos 9999999)
-  pub last-below-zero : metres_of (fin true 9999999 (pos 0)) ≡ some (negsuc 9999998)
-  pub past : metres_of (fin false 78125 (pos 7)) ≡ none
-  pub past-below-zero : metres_of (fin true 19999999 (negsuc 0)) ≡ none
-  pub no_number : metres_of nan ≡ none
-  pub infinite : metres_of (inf false) ≡ none
+  pub down : metres_of half ≡ Some (pos 0)
+  pub down-below-zero : metres_of (fin true 1 (negsuc 0)) ≡ Some (negsuc 0)
+  pub minus-zero : metres_of (fin true 0 (pos 0)) ≡ Some (pos 0)
+  pub last : metres_of far ≡ Some (pos 9999999)
+  pub last-below-zero : metres_of (fin true 9999999 (pos 0)) ≡ Some (negsuc 9999998)
+  pub past : metres_of (fin false 78125 (pos 7)) ≡ None
+  pub past-below-zero : metres_of (fin true 19999999 (negsuc 0)) ≡ None
+  pub no_number : metres_of nan ≡ None
+  pub infinite : metres_of (inf false) ≡ None
   -- an end at the metres is not below them; past the last end the stage is the last
   pub at_end : stage_of (300 ∷ 1000 ∷ []) (pos 300) ≡ 1
   pub past_end : stage_of (300 ∷ 1000 ∷ []) (pos 301) ≡ 2

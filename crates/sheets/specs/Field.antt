@@ -1,7 +1,6 @@
 -- One field of a sheet: a whole number in eight bytes, read and written. It is right-justified with spaces, a minus stands directly before
 -- the digits, and there are no leading zeros, no -0 and no blank field. Byte 32 is a space, 45 a minus, 48 to 57 are the digits. Definitions only.
-use Rattle.std.specs.Prelude.{Bool, true, false, not, ◌&&◌, ◌||◌, cond, List, [], ◌∷◌, ℕ, zero, suc, ◌+◌, ◌-◌, ◌*◌, ◌/◌, ◌%◌, ◌^◌, leb, eqb, ℤ, pos, negsuc, length}
-use Rattle.std.proofs.Math.Option.{Option, none, some}
+use Rattle.std.specs.Prelude.{Bool, true, false, not, ◌&&◌, ◌||◌, cond, List, [], ◌∷◌, ℕ, zero, suc, ◌+◌, ◌-◌, ◌*◌, ◌/◌, ◌%◌, ◌^◌, leb, eqb, ℤ, pos, negsuc, length, Option, None, Some}
 
 -- ---- reading
 
@@ -23,22 +22,22 @@ leading_zero b bs = eqb b 48 && not (eqb (length bs) 0)
 
 -- digits that say a number: at least one, nothing else, and no leading zero
 unfoldable pub read_digits : List ℕ → Option ℕ
-read_digits [] = none
-read_digits (b ∷ bs) = cond (leading_zero b bs) none (cond (all_digits (b ∷ bs)) (some (decimal (b ∷ bs))) none)
+read_digits [] = None
+read_digits (b ∷ bs) = cond (leading_zero b bs) None (cond (all_digits (b ∷ bs)) (Some (decimal (b ∷ bs))) None)
 
 abbrev pub positive : Option ℕ → Option ℤ
-positive none = none
-positive (some m) = some (pos m)
+positive None = None
+positive (Some m) = Some (pos m)
 
 -- a number below zero: there is no -0
 abbrev pub negative : Option ℕ → Option ℤ
-negative none = none
-negative (some zero) = none
-negative (some (suc n)) = some (negsuc n)
+negative None = None
+negative (Some zero) = None
+negative (Some (suc n)) = Some (negsuc n)
 
 -- spaces, then a minus or none, then digits
 unfoldable pub read_field : List ℕ → Option ℤ
-read_field [] = none
+read_field [] = None
 read_field (b ∷ bs) = cond (eqb b 32) (read_field bs) (cond (eqb b 45) (negative (read_digits bs)) (positive (read_digits (b ∷ bs))))
 
 -- ---- writing

@@ -1,6 +1,5 @@
 -- A position as whole metres: rounded down, within seven digits. Definitions only.
-use Rattle.std.specs.Prelude.{Bool, true, false, cond, ℕ, zero, suc, ◌+◌, ◌-◌, ◌*◌, ◌/◌, leb, ℤ, pos, negsuc, Float}
-use Rattle.std.proofs.Math.Option.{Option, none, some}
+use Rattle.std.specs.Prelude.{Bool, true, false, cond, ℕ, zero, suc, ◌+◌, ◌-◌, ◌*◌, ◌/◌, leb, ℤ, pos, negsuc, Float, Option, None, Some}
 use Rattle.std.specs.Float.{nan, inf, fin}
 use Rattle.std.specs.Float.Ieee.{up, down}
 
@@ -12,10 +11,10 @@ signed true (suc n) = negsuc n
 
 -- rounded down to a whole number; the float's size is m * up e / down e
 unfoldable pub floor_of : Float → Option ℤ
-floor_of nan = none
-floor_of (inf s) = none
-floor_of (fin false m e) = some (pos (m * up e / down e))
-floor_of (fin true m e) = some (signed true ((m * up e + (down e - 1)) / down e))
+floor_of nan = None
+floor_of (inf s) = None
+floor_of (fin false m e) = Some (pos (m * up e / down e))
+floor_of (fin true m e) = Some (signed true ((m * up e + (down e - 1)) / down e))
 
 -- whole metres that a sheet takes and prints
 abbrev pub within : ℤ → Bool
@@ -23,8 +22,8 @@ within (pos m) = leb m 9999999
 within (negsuc n) = leb (suc n) 9999999
 
 abbrev pub keep : Option ℤ → Option ℤ
-keep none = none
-keep (some z) = cond (within z) (some z) none
+keep None = None
+keep (Some z) = cond (within z) (Some z) None
 
 -- none where the position is no number, or its whole metres are out of limits
 unfoldable pub metres_of : Float → Option ℤ

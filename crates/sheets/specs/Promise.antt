@@ -1,6 +1,5 @@
 -- Promises about a report: what is printed of any input, and which of its bytes decide. Statements only.
-use Rattle.std.specs.Prelude.{◌≡◌, ◌⊎◌, List, [], ◌∷◌, ◌++◌, ℕ, suc, ◌≤◌, ℤ, pos, length, take}
-use Rattle.sheets.specs.Verdict.{given}
+use Rattle.std.specs.Prelude.{◌≡◌, ◌⊎◌, List, [], ◌∷◌, ◌++◌, ℕ, suc, ◌≤◌, ℤ, pos, length, take, Ok}
 use Rattle.sheets.specs.Sheet.{Sheet, read_sheet}
 use Rattle.sheets.specs.Output.{line_text, refusal_text}
 use Rattle.sheets.specs.Report.{report}
@@ -26,7 +25,7 @@ joined (t ∷ ts) = t ++ joined ts
 -- a sheet that is answered: exactly a line for each reading, numbered from 1
 pub record AnsweredSheet (s : List ℕ) : Type 0 where
   pub sheet : Sheet
-  pub is_read : read_sheet s ≡ given sheet
+  pub is_read : read_sheet s ≡ Ok sheet
   pub texts : List (List ℕ)
   pub is_printed : report s ≡ joined texts
   pub one_each : length texts ≡ length sheet.readings

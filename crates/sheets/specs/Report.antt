@@ -1,10 +1,11 @@
 -- The whole output of the whole input: the sheet is read, filtered and smoothed; then a line is printed for each reading, or the refusal's. Definitions only.
-use Rattle.std.specs.Prelude.{List, map, ℕ, ◌+◌, ℤ, pos, Float, length}
-use Rattle.std.proofs.Math.Option.{Option, none, some}
+use Rattle.std.specs.Prelude.{List, map, ℕ, ◌+◌, ℤ, pos, Float, length, Option, None, Some, Ok}
+use Rattle.std.proofs.Math.Option as tracked_option
 use Rattle.std.specs.Float.{binary64}
 use Rattle.std.specs.Float.Ieee.{of_int}
 use Rattle.tracking.specs.Track.{Settings, Smoothed, Tracked, rejected, tracked, track}
-use Rattle.sheets.specs.Verdict.{Verdict, refused, given, then, mapped}
+use Rattle.answer.specs.declared.Refusal.TheVariants.{SingularMatrix}
+use Rattle.sheets.specs.Verdict.{Verdict, refused, then, mapped}
 use Rattle.sheets.specs.Sheet.{Sheet, readings_line, read_sheet}
 use Rattle.sheets.specs.Output.{readings_text, all_metres, printed}
 
@@ -16,9 +17,9 @@ float_of z = of_int binary64 z
 abbrev pub settings_of : Sheet → Settings
 settings_of sh = record { step = float_of (pos sh.step); process = float_of (pos sh.process); measurement = float_of (pos sh.measurement) }
 
-abbrev pub measured_of : Option ℤ → Option Float
-measured_of none = none
-measured_of (some z) = some (float_of z)
+abbrev pub measured_of : Option ℤ → tracked_option.Option Float
+measured_of None = tracked_option.none
+measured_of (Some z) = tracked_option.some (float_of z)
 
 unfoldable pub track_of : Sheet → Tracked (List Smoothed)
 track_of sh = track (settings_of sh) (map measured_of sh.readings)
@@ -29,8 +30,8 @@ first_line sh = readings_line (length sh.ends)
 
 -- the smoothed positions, or 3 at the line of the reading that is rejected
 abbrev pub on_lines : ℕ → Tracked (List Smoothed) → Verdict (List Float)
-on_lines first (rejected k) = refused 3 (first + k)
-on_lines first (tracked l) = given (map (λ (p : Smoothed). p.smoothed) l)
+on_lines first (rejected k) = refused SingularMatrix (first + k)
+on_lines first (tracked l) = Ok (map (λ (p : Smoothed). p.smoothed) l)
 
 -- ---- the report
 

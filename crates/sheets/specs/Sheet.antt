@@ -1,8 +1,8 @@
 -- The depot sheet as it is read: line 1, a line a stage, a line a reading, and nothing after. Definitions only.
-use Rattle.std.specs.Prelude.{Bool, false, ◌&&◌, ◌||◌, cond, List, [], ◌∷◌, map, ℕ, ◌+◌, ◌*◌, ltb, eqb, ℤ, pos, negsuc, nat_abs, length}
-use Rattle.std.proofs.Math.Option.{Option, none, some}
+use Rattle.std.specs.Prelude.{Bool, false, ◌&&◌, ◌||◌, cond, List, [], ◌∷◌, map, ℕ, ◌+◌, ◌*◌, ltb, eqb, ℤ, pos, negsuc, nat_abs, length, Option, None, Some, Ok}
 use Rattle.sheets.specs.Metres.{within}
-use Rattle.sheets.specs.Verdict.{Verdict, refused, given, then, mapped}
+use Rattle.answer.specs.declared.Refusal.TheVariants.{BadForm}
+use Rattle.sheets.specs.Verdict.{Verdict, refused, then, mapped}
 use Rattle.sheets.specs.Line.{read_lines, in_range, nth}
 
 -- ---- ranges: a test is handed the numbers of the line before, of the same kind, and of the line
@@ -74,8 +74,8 @@ read_readings stages readings s = read_lines 2 reading_test readings [] (reading
 abbrev pub read_end : List ℤ → List (List ℤ) → List (List ℤ) → List ℕ → Verdict Rows
 read_end h es rs s =
     cond (eqb (length s) (sheet_length (stages_of h) (readings_of h)))
-    (given (record { head = h; ends = es; readings = rs }))
-    (refused 7 (readings_line (stages_of h) + readings_of h))
+    (Ok (record { head = h; ends = es; readings = rs }))
+    (refused BadForm (readings_line (stages_of h) + readings_of h))
 
 unfoldable pub read_rows : List ℕ → Verdict Rows
 read_rows s =
@@ -101,7 +101,7 @@ abbrev pub is_taken : List ℤ → Bool
 is_taken zs = in_range 1 1 (nth zs 0)
 
 abbrev pub reading_of : List ℤ → Option ℤ
-reading_of zs = cond (is_taken zs) (some (nth zs 1)) none
+reading_of zs = cond (is_taken zs) (Some (nth zs 1)) None
 
 abbrev pub sheet_of : Rows → Sheet
 sheet_of r =

@@ -1,8 +1,6 @@
 -- Promises about texts: what is written reads back, and a number and a sheet have one text each. Definitions and statements only.
-use Rattle.std.specs.Prelude.{◌≡◌, Bool, true, List, [], ◌∷◌, ◌++◌, ℕ, ℤ, length}
-use Rattle.std.proofs.Math.Option.{some}
+use Rattle.std.specs.Prelude.{◌≡◌, Bool, true, List, [], ◌∷◌, ◌++◌, ℕ, ℤ, length, Some, Ok}
 use Rattle.sheets.specs.Field.{read_field, write_field, holds}
-use Rattle.sheets.specs.Verdict.{given}
 use Rattle.sheets.specs.Output.{line_text}
 use Rattle.sheets.specs.Sheet.{Rows, head_test, end_test, reading_test, stages_of, readings_of, read_rows}
 
@@ -33,7 +31,7 @@ unfoldable pub sheet_text : Rows → List ℕ
 sheet_text r = lines_text (r.head ∷ []) ++ (lines_text r.ends ++ lines_text r.readings)
 
 pub record Texts : Type 0 where
-  pub field_back : (z : ℤ) → holds z ≡ true → read_field (write_field z) ≡ some z
-  pub field-one : (f : List ℕ) (z : ℤ) → length f ≡ 8 → read_field f ≡ some z → (f ≡ write_field z) × (holds z ≡ true)
-  pub sheet-back : (r : Rows) → Sheetable r → read_rows (sheet_text r) ≡ given r
-  pub sheet-one : (s : List ℕ) (r : Rows) → read_rows s ≡ given r → s ≡ sheet_text r
+  pub field_back : (z : ℤ) → holds z ≡ true → read_field (write_field z) ≡ Some z
+  pub field-one : (f : List ℕ) (z : ℤ) → length f ≡ 8 → read_field f ≡ Some z → (f ≡ write_field z) × (holds z ≡ true)
+  pub sheet-back : (r : Rows) → Sheetable r → read_rows (sheet_text r) ≡ Ok r
+  pub sheet-one : (s : List ℕ) (r : Rows) → read_rows s ≡ Ok r → s ≡ sheet_text r

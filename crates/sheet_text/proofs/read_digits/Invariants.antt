@@ -1,10 +1,7 @@
--- What the loop of `read_digits` keeps.
-use Rattle.std.proofs.Common.{◌-◌, ◌^◌, ◌<◌, ◌≤◌, take, drop}
+-- What the loop of `read_digits` keeps: how what was read goes on.
+use Rattle.std.proofs.Common.{◌^◌, ◌<◌}
 use Rattle.sheets.proofs.Reading.{Left}
 use Rattle.sheet_text.proofs.read_digits.Given as goal
 
-abbrev pub invariant-loop-i : goal.invariant-loop-i
-invariant-loop-i l = (l.i ≤ 8) × (l.size < 10 ^ l.i) × Left (take 8 (drop l.at l.s)) l.from l.size l.i
-
-abbrev pub decreases-loop-i : goal.decreases-loop-i
-decreases-loop-i l = 8 - l.i
+abbrev pub invariant-loop-b : goal.invariant-loop-b
+invariant-loop-b l = (l.size < 10 ^ l.b-index) × Left l.digits l.size l.b-index

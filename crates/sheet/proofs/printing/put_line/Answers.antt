@@ -1,30 +1,29 @@
--- Three fields and the line's end.
-use native.Mathlib.Omega.{arith}
-use lib.IntN.{pos}
+-- Field after field, and the byte that ends a line.
+use Rattle.std.proofs.Common.{◌≡◌, ◌≤◌, ◌++◌, length, get_or, ◌∙◌, arith, rules, w64, pos, add-one, append_assoc}
+use mir.Val.{SFits}
+use Rattle.std.proofs.lemmas.Int.{to_z-of_z}
+use lib.ListN.{length-append}
+use lib.Seq.{take_all}
 use Rattle.sheets.proofs.FieldBack.{length-field}
-use Rattle.sheets.proofs.Printing.{line-three}
-use Rattle.sheet_text.specs.Held.{number_of}
-use Rattle.sheet.proofs.Buffer.{stored-both}
+use Rattle.sheets.specs.Field.{write_field}
+use Rattle.std.proofs.lemmas.Result.{IfOk-at_ok}
+use Rattle.sheet.proofs.Text.{line_fields, fields_more}
 use Rattle.sheet.proofs.printing.put_line.Goals as goal
 
-pub put-b-requires : goal.put-b-requires
-put-b-requires c =
-    let p = c.put_size-a.ensures in
-    omega (arith, p.next, p.same, length-field (pos c.args.number), c.requires)
-
-pub put_size-c-requires : goal.put_size-c-requires
-put_size-c-requires c =
-    let q = c.put-b.ensures in
-    let p = c.put_size-a.ensures in
-    omega (arith, p.next, p.same, q.next, q.same, length-field (pos c.args.number), length-field (number_of c.args.w), c.requires)
-
-pub store_end-requires : goal.store_end-requires
-store_end-requires c =
-    let r = c.put_size-c.ensures in
-    let q = c.put-b.ensures in
-    let p = c.put_size-a.ensures in
-    let a = c.args in
-    omega (arith, p.next, p.same, q.next, q.same, r.next, r.same, length-field (pos a.number), length-field (number_of a.w), length-field (pos a.stage), c.requires)
+pub loop-number-preserved : goal.loop-number-preserved
+loop-number-preserved c =
+    let l = c.loop-number in
+    let e : c.try_extend_from_slice.new.self.items ≡ c.loop-number.text.items ++ c.write_field.result = IfOk-at_ok _ c.unwrap.ensures c.try_extend_from_slice.ensures.ok in
+    let f : SFits w64 (get_or c.args.numbers.now c.loop-number.number-index (pos 0)) = search rules in
+    let w : c.write_field.result ≡ write_field (get_or c.args.numbers.now c.loop-number.number-index (pos 0)) = simp to_z-of_z at c.write_field.ensures in
+    let m : length (write_field (get_or c.args.numbers.now c.loop-number.number-index (pos 0))) ≡ 8 = length-field (get_or c.args.numbers.now c.loop-number.number-index (pos 0)) in (
+      e ∙ rw (w, l.invariant.0, add-one, fields_more c.args.numbers.now c.loop-number.number-index c.loop-number-test.true, append_assoc),
+      rw (e, length-append, w, m) (omega arith),
+      omega arith,
+    )
 
 pub returns : goal.returns
-returns c = rw line-three (stored-both (stored-both (stored-both c.put_size-a.ensures c.put-b.ensures) c.put_size-c.ensures) c.store_end.ensures)
+returns c =
+    let l = c.loop-number in
+    let n : length c.args.numbers.now ≤ l.number-index = c.loop-number-test.false in
+    c.push.ensures.items ∙ rw (l.invariant.0, take_all l.number-index c.args.numbers.now n, line_fields, append_assoc)

@@ -1,35 +1,42 @@
 -- Line after line, 25 bytes each.
-use mathlib.Core.Path.{◌≡◌, refl}
-use Prim.Native.Nat.{◌+◌}
-use native.Mathlib.Numerals.{add-one}
-use native.Mathlib.Omega.{arith}
-use lib.ListN.{length, take, get_or}
+use Rattle.std.proofs.Common.{◌≡◌, ◌+◌, ◌≤◌, ◌++◌, length, get_or, ◌∙◌, arith, rules, w64, pos, ◌+ℤ◌, to_z, of_z, append_assoc, append-nil}
+use mir.Val.{SFits}
+use lib.ListN.{length-append}
+use lib.Seq.{take_all}
+use Rattle.std.proofs.lemmas.Int.{ints, to_z-of_z}
 use Rattle.sheets.specs.Output.{reading_text}
+use Rattle.sheets.specs.Stage.{stage_of}
 use Rattle.sheets.proofs.Printing.{lines_none, length_reading}
-use Rattle.sheet_text.specs.Held.{number_of}
-use Rattle.sheet.specs.Held.{no_mark, Stored}
-use Rattle.sheet.proofs.Passing.{stage-small}
-use Rattle.sheet.proofs.Buffer.{stored-none, stored-both, lines_more}
+use Rattle.sheet.proofs.Stage.{stage_small}
+use Rattle.sheet.proofs.Text.{lines_more}
 use Rattle.sheet.proofs.printing.put_lines.Goals as goal
 
 pub loop-i-init : goal.loop-i-init
-loop-i-init c = (omega arith, refl, rw (lines_none 1 (take c.args.stages c.args.ends)) (stored-none c.args.out.now))
+loop-i-init c = (rw (lines_none, append-nil), omega arith, omega arith)
 
 pub overflow_cast-stage : goal.overflow_cast-stage
 overflow_cast-stage c =
-    let a = c.args in
-    omega (arith, c.stage_of-stage.ensures, stage-small a.stages a.ends (number_of (get_or a.marks c.loop-i.i no_mark)))
+    let h = stage_small c.args.ends.now (to_z w64 (of_z w64 (get_or c.args.metres.now c.loop-i.i (pos 0)))) in
+    omega (arith, ints, c.stage.ensures)
 
 pub loop-i-preserved : goal.loop-i-preserved
+unfolding reading_text
 loop-i-preserved c =
-    let a = c.args in
     let l = c.loop-i in
-    let es = take a.stages a.ends in
-    let w = get_or a.marks l.i no_mark in
-    let d : Stored l.out c.put_line-at.new.out l.at (reading_text (l.i + 1) es (number_of w)) c.put_line-at.result =
-    unfold reading_text in rw c.stage_of-stage.ensures at c.put_line-at.ensures in
-    let m : length a.marks ≡ 64 = c.well_formed.1.0.1.0.1 in (
+    let f : SFits w64 (get_or c.args.metres.now c.loop-i.i (pos 0)) = search rules in
+    let e : c.stage.result ≡ stage_of c.args.ends.now (get_or c.args.metres.now c.loop-i.i (pos 0)) = simp to_z-of_z at c.stage.ensures in
+    let h = stage_small c.args.ends.now (get_or c.args.metres.now c.loop-i.i (pos 0)) in
+    let n : to_z w64 (of_z w64 (to_z w64 c.loop-i.i +ℤ pos 1)) ≡ pos (c.loop-i.i + 1) = omega (arith, ints) in
+    let g : to_z w64 c.stage.result ≡ pos c.stage.result = omega (arith, ints) in
+    let d : c.put_line.new.text.items ≡ c.loop-i.text.items ++ reading_text (c.loop-i.i + 1) c.args.ends.now (get_or c.args.metres.now c.loop-i.i (pos 0)) =
+    c.put_line.ensures ∙ rw (n, g, to_z-of_z, e) in
+    let r = length_reading (c.loop-i.i + 1) c.args.ends.now (get_or c.args.metres.now c.loop-i.i (pos 0)) in (
+      d ∙ rw (l.invariant.0, lines_more c.args.ends.now c.args.metres.now c.loop-i.i c.loop-i-test.true, append_assoc),
+      rw (d, length-append, r) (omega arith),
       omega arith,
-      omega (arith, d.next, length_reading (l.i + 1) es (number_of w)),
-      rw (add-one l.i, lines_more es a.marks a.n l.i (omega arith) (omega arith) no_mark) (stored-both l.invariant.2 d),
     )
+
+pub returns : goal.returns
+returns c =
+    let n : length c.args.metres.now ≤ c.loop-i.i = c.loop-i-test.false in
+    c.loop-i.invariant.0 ∙ rw (take_all c.loop-i.i c.args.metres.now n)

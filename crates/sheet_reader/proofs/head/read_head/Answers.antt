@@ -1,46 +1,31 @@
--- Line 1: its form, then its ranges.
-use mathlib.Core.Path.{◌≡◌, sym, ◌∙◌}
-use mathlib.Core.Bool.{Bool, true}
-use Prim.Native.Nat.{ℕ, ◌<◌}
-use mathlib.Core.List.{List}
-use native.Mathlib.Omega.{arith}
-use lib.ListN.{length}
-use Rattle.sheets.specs.Line.{form}
-use Rattle.sheets.proofs.Lines.{form-length}
-use Rattle.sheet_reader.proofs.HeadLine.{head_bad, head-out, head-given}
+-- Line 1 is read, and then its numbers.
+use Rattle.std.proofs.Common.{◌≡◌, sym, ◌∙◌, ap, rules, w64}
+use mir.Val.{SFits}
+use Rattle.std.specs.Prelude.{Err}
+use Rattle.std.proofs.lemmas.Result.{err_from_is_err_and}
+use Rattle.std.proofs.lemmas.Int.{to_z-of_z}
+use Rattle.sheets.specs.Line.{nth}
+use Rattle.sheet_reader.specs.Held.{head_in}
+use Rattle.sheet_reader.proofs.HeadLine.{head_bad, head_read, head_few}
+use Rattle.sheet_reader.proofs.Fill.{none_of, some_of}
 use Rattle.sheet_reader.proofs.head.read_head.Goals as goal
 
--- the line has its form, and so all its bytes
-there : (s : List ℕ) (r : Bool) → r ≡ form 5 s 0 → r ≡ true → 40 < length s
-there s r e t = form-length 5 0 s (sym e ∙ t)
+pub returns-in_err-step-clause-read : goal.returns-in_err-step-clause-read
+returns-in_err-step-clause-read c =
+    let p = err_from_is_err_and c.from_residual.result c.from_residual.ensures.1 in
+    let q = none_of c.line.result c.at_line.result c.in_err-step.field-0.0 c.in_err-step.ensures.value in
+    p.1 ∙ ap Err (p.2 ∙ q.1 ∙ c.at_line.ensures) ∙ sym (head_bad c.args.s.now (sym c.line.ensures ∙ q.0))
 
-pub returns-then-not-has_form : goal.returns-then-not-has_form
-returns-then-not-has_form c = c.no_head.ensures ∙ sym (head_bad _ (sym c.has_form.ensures ∙ c.if-not-has_form.true))
+pub returns-clause-read : goal.returns-clause-read
+returns-clause-read c =
+    let v = some_of c.line.result c.at_line.result c.in_ok-step.field-0 c.in_ok-step.ensures.value in
+    let k0 : SFits w64 (nth c.in_ok-step.field-0 0) = search rules in
+    let k1 : SFits w64 (nth c.in_ok-step.field-0 1) = search rules in
+    let k2 : SFits w64 (nth c.in_ok-step.field-0 2) = search rules in
+    let k3 : SFits w64 (nth c.in_ok-step.field-0 3) = search rules in
+    let k4 : SFits w64 (nth c.in_ok-step.field-0 4) = search rules in
+    let h : c.head_of.result ≡ head_in c.in_ok-step.field-0 = simp to_z-of_z at c.head_of.ensures in
+    c.ok_or-2.ensures.value ∙ rw (h, c.at_line-2.ensures) (sym (head_read c.args.s.now c.in_ok-step.field-0 (sym c.line.ensures ∙ v)))
 
-pub number_at-requires : goal.number_at-requires
-number_at-requires c = omega (arith, there c.args.s.now _ c.has_form.ensures c.if-not-has_form.false)
-
-pub number_at-requires-2 : goal.number_at-requires-2
-number_at-requires-2 c = omega (arith, there c.args.s.now _ c.has_form.ensures c.if-not-has_form.false)
-
-pub number_at-requires-3 : goal.number_at-requires-3
-number_at-requires-3 c = omega (arith, there c.args.s.now _ c.has_form.ensures c.if-not-has_form.false)
-
-pub number_at-requires-4 : goal.number_at-requires-4
-number_at-requires-4 c = omega (arith, there c.args.s.now _ c.has_form.ensures c.if-not-has_form.false)
-
-pub number_at-requires-5 : goal.number_at-requires-5
-number_at-requires-5 c = omega (arith, there c.args.s.now _ c.has_form.ensures c.if-not-has_form.false)
-
-pub returns-then-not-is_head : goal.returns-then-not-is_head
-returns-then-not-is_head c =
-    c.no_head-then-not-is_head.ensures
-    ∙ sym (head-out _ c.number_at.result.value c.number_at-2.result.value c.number_at-3.result.value c.number_at-4.result.value c.number_at-5.result.value
-    (sym c.has_form.ensures ∙ c.if-not-has_form.false) c.number_at.ensures.1 c.number_at-2.ensures.1 c.number_at-3.ensures.1 c.number_at-4.ensures.1 c.number_at-5.ensures.1
-    c.is_head.result c.is_head.ensures c.if-not-is_head.true)
-
-pub returns : goal.returns
-returns c =
-    sym (head-given _ c.number_at.result.value c.number_at-2.result.value c.number_at-3.result.value c.number_at-4.result.value c.number_at-5.result.value
-    (sym c.has_form.ensures ∙ c.if-not-has_form.false) c.number_at.ensures.1 c.number_at-2.ensures.1 c.number_at-3.ensures.1 c.number_at-4.ensures.1 c.number_at-5.ensures.1
-    c.is_head.result c.is_head.ensures c.if-not-is_head.false)
+pub returns-clause-few : goal.returns-clause-few
+returns-clause-few c = head_few c.args.s.now c.ok_or-2.result (returns-clause-read c)

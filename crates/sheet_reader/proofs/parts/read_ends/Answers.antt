@@ -1,56 +1,40 @@
 -- The ends are read line by line, each above the one before.
-use mathlib.Core.Path.{refl, sym, ◌∙◌}
-use native.Mathlib.Omega.{arith}
-use lib.ListN.{length-set}
-use borrow.Author.Tests.{not-true, not-false}
-use Rattle.sheet_reader.proofs.EndLines.{ends-start, ends_bad, ends-out, ends_low, ends-step, ends-end}
+use Rattle.std.proofs.Common.{◌≡◌, sym, ◌∙◌, ap, arith, rules, w64}
+use mir.Val.{SFits}
+use Rattle.std.specs.Prelude.{None, Some, Err}
+use Rattle.std.proofs.lemmas.Int.{to_z-of_z}
+use Rattle.std.proofs.lemmas.Result.{err_from_is_err_and}
+use Rattle.sheets.specs.Line.{nth}
+use Rattle.sheet_reader.specs.Held.{end_held}
+use Rattle.sheet_reader.proofs.Fill.{fill_bad, fill_all, none_of, some_of}
+use Rattle.sheet_reader.proofs.Ends.{ends_none, ends_out, ends_more}
 use Rattle.sheet_reader.proofs.parts.read_ends.Goals as goal
 
 pub loop-i-init : goal.loop-i-init
-loop-i-init c = (omega arith, c.requires, refl, ends-start _ _)
+loop-i-init c = (omega arith, rw c.new-ends.ensures (ends_none c.args.s.now c.args.n))
 
-pub returns-then-not-line : goal.returns-then-not-line
-returns-then-not-line c =
-    let l = c.loop-i in
-    let a = c.args in
-    c.no_ends.ensures
-    ∙ sym (ends_bad a.s.now a.n l.e l.before l.i l.invariant.3 c.loop-i-test.true (sym c.one_at-line.ensures.0 ∙ not-true _ c.if-not-line.true))
+pub returns-in_err-end : goal.returns-in_err-end
+returns-in_err-end c =
+    let p = err_from_is_err_and c.from_residual.result c.from_residual.ensures.1 in
+    let q = none_of c.line.result c.at_line.result c.in_err-end.field-0.0 c.in_err-end.ensures.value in
+    p.1 ∙ ap Err (p.2 ∙ q.1 ∙ c.at_line.ensures) ∙ sym (fill_bad c.loop-i.invariant.1 c.loop-i-test.true (sym c.line.ensures ∙ q.0))
 
-pub returns-then-not-in_range : goal.returns-then-not-in_range
-returns-then-not-in_range c =
-    let f = sym c.one_at-line.ensures.0 ∙ not-false _ c.if-not-line.false in
-    let l = c.loop-i in
-    let a = c.args in
-    let r = c.in_range in
-    c.no_ends-then-not-in_range.ensures
-    ∙ sym (ends-out a.s.now a.n l.e l.before l.i l.invariant.3 c.one_at-line.result.value (c.one_at-line.ensures.1 f) c.loop-i-test.true
-    f r.result r.ensures (c.if-not-in_range.true))
-
-pub returns-then-w-before : goal.returns-then-w-before
-returns-then-w-before c =
-    let f = sym c.one_at-line.ensures.0 ∙ not-false _ c.if-not-line.false in
-    let l = c.loop-i in
-    let a = c.args in
-    let r = c.in_range in
-    c.no_ends-then-w-before.ensures
-    ∙ sym (ends_low a.s.now a.n l.e l.before l.i l.invariant.3 c.one_at-line.result.value (c.one_at-line.ensures.1 f) c.loop-i-test.true
-    f r.result r.ensures (c.if-not-in_range.false) c.if-w-before.true)
+pub returns-in_err-before : goal.returns-in_err-before
+returns-in_err-before c =
+    let p = err_from_is_err_and c.from_residual-in_err-before.result c.from_residual-in_err-before.ensures.1 in
+    let q = none_of c.end_above.result c.at_line-in-loop-i.result c.in_err-before.field-0.0 c.in_err-before.ensures.value in
+    let v = some_of c.line.result c.at_line.result c.in_ok-end.field-0 c.in_ok-end.ensures.value in
+    let k : SFits w64 (nth c.in_ok-end.field-0 0) = search rules in
+    let w : end_held c.loop-i.before (nth c.in_ok-end.field-0 0) ≡ None = rw to_z-of_z at (sym c.end_above.ensures ∙ q.0) in
+    p.1 ∙ ap Err (p.2 ∙ q.1 ∙ c.at_line-in-loop-i.ensures) ∙ sym (ends_out c.loop-i.invariant.1 c.in_ok-end.field-0 c.loop-i-test.true (sym c.line.ensures ∙ v) w)
 
 pub loop-i-preserved : goal.loop-i-preserved
 loop-i-preserved c =
-    let f = sym c.one_at-line.ensures.0 ∙ not-false _ c.if-not-line.false in
-    let l = c.loop-i in
-    let a = c.args in
-    let r = c.in_range in (
-      omega arith,
-      l.invariant.1,
-      simp length-set l.invariant.2,
-      ends-step a.s.now a.n l.e l.before l.i l.invariant.3 c.one_at-line.result.value (c.one_at-line.ensures.1 f) c.loop-i-test.true
-          f r.result r.ensures (c.if-not-in_range.false) c.if-w-before.false,
-    )
+    let v = some_of c.line.result c.at_line.result c.in_ok-end.field-0 c.in_ok-end.ensures.value in
+    let u = some_of c.end_above.result c.at_line-in-loop-i.result c.in_ok-before.before c.in_ok-before.ensures.value in
+    let k : SFits w64 (nth c.in_ok-end.field-0 0) = search rules in
+    let w : end_held c.loop-i.before (nth c.in_ok-end.field-0 0) ≡ Some c.in_ok-before.before = rw to_z-of_z at (sym c.end_above.ensures ∙ u) in
+    (omega arith, rw c.push.ensures.items (ends_more c.loop-i.invariant.1 c.in_ok-end.field-0 c.loop-i-test.true (sym c.line.ensures ∙ v) c.in_ok-before.before w))
 
 pub returns : goal.returns
-returns c =
-    let a = c.args in
-    let l = c.loop-i in
-    sym (ends-end a.s.now a.n l.e l.before l.i l.invariant.3 c.loop-i-test.false)
+returns c = sym (fill_all c.loop-i.invariant.1 c.loop-i-test.false)

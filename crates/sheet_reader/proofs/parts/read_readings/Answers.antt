@@ -1,47 +1,39 @@
 -- The readings are read line by line.
-use mathlib.Core.Path.{refl, sym, ◌∙◌}
-use native.Mathlib.Omega.{arith}
-use lib.ListN.{length-set}
-use borrow.Author.Tests.{not-true, not-false}
-use Rattle.sheet_reader.proofs.ReadingLines.{left-start, left_bad, left_out, left_step, left_end}
+use Rattle.std.proofs.Common.{◌≡◌, sym, ◌∙◌, ap, rules, w64}
+use mir.Val.{SFits}
+use Rattle.std.specs.Prelude.{None, Some, Err}
+use Rattle.std.proofs.lemmas.Int.{to_z-of_z}
+use Rattle.std.proofs.lemmas.Result.{err_from_is_err_and}
+use Rattle.sheets.specs.Line.{nth}
+use Rattle.sheet_reader.specs.Held.{reading_held}
+use Rattle.sheet_reader.proofs.Fill.{fill_bad, fill_all, none_of, some_of}
+use Rattle.sheet_reader.proofs.Readings.{readings_out, readings_more}
 use Rattle.sheet_reader.proofs.parts.read_readings.Goals as goal
 
-pub loop-i-init : goal.loop-i-init
-loop-i-init c = (omega arith, refl, left-start _ _ _ _)
+pub returns-in_err-kind : goal.returns-in_err-kind
+returns-in_err-kind c =
+    let p = err_from_is_err_and c.from_residual.result c.from_residual.ensures.1 in
+    let q = none_of c.line.result c.at_line.result c.in_err-kind.field-0.0 c.in_err-kind.ensures.value in
+    p.1 ∙ ap Err (p.2 ∙ q.1 ∙ c.at_line.ensures) ∙ sym (fill_bad c.loop-i.invariant c.loop-i-test.true (sym c.line.ensures ∙ q.0))
 
-pub returns-then-not-line : goal.returns-then-not-line
-returns-then-not-line c =
-    let l = c.loop-i in
-    let a = c.args in
-    c.no_readings.ensures
-    ∙ sym (left_bad a.s.now a.n a.first a.from l.e l.i l.invariant.2 c.loop-i-test.true (sym c.two_at-line.ensures.0 ∙ not-true _ c.if-not-line.true))
-
-pub returns-then-not-is_reading : goal.returns-then-not-is_reading
-returns-then-not-is_reading c =
-    let f = sym c.two_at-line.ensures.0 ∙ not-false _ c.if-not-line.false in
-    let l = c.loop-i in
-    let a = c.args in
-    let t = c.two_at-line in
-    let r = c.is_reading in
-    c.no_readings-then-not-is_reading.ensures
-    ∙ sym (left_out a.s.now a.n a.first a.from l.e l.i l.invariant.2 t.result.first t.result.second c.loop-i-test.true
-    f (t.ensures.1 f) (t.ensures.2 f) r.result r.ensures (c.if-not-is_reading.true))
+pub returns-in_err-ok_or : goal.returns-in_err-ok_or
+returns-in_err-ok_or c =
+    let p = err_from_is_err_and c.from_residual-in_err-ok_or.result c.from_residual-in_err-ok_or.ensures.1 in
+    let q = none_of c.reading.result c.at_line-in-loop-i.result c.in_err-ok_or.field-0.0 c.in_err-ok_or.ensures.value in
+    let v = some_of c.line.result c.at_line.result c.in_ok-kind.field-0 c.in_ok-kind.ensures.value in
+    let k : SFits w64 (nth c.in_ok-kind.field-0 0) = search rules in
+    let m : SFits w64 (nth c.in_ok-kind.field-0 1) = search rules in
+    let w : reading_held (nth c.in_ok-kind.field-0 0) (nth c.in_ok-kind.field-0 1) ≡ None = simp to_z-of_z at (sym c.reading.ensures ∙ q.0) in
+    p.1 ∙ ap Err (p.2 ∙ q.1 ∙ c.at_line-in-loop-i.ensures) ∙ sym (readings_out c.loop-i.invariant c.in_ok-kind.field-0 c.loop-i-test.true (sym c.line.ensures ∙ v) w)
 
 pub loop-i-preserved : goal.loop-i-preserved
 loop-i-preserved c =
-    let f = sym c.two_at-line.ensures.0 ∙ not-false _ c.if-not-line.false in
-    let l = c.loop-i in
-    let a = c.args in
-    let t = c.two_at-line in
-    let r = c.is_reading in (
-      omega arith,
-      simp length-set l.invariant.1,
-      left_step a.s.now a.n a.first a.from l.e l.i l.invariant.2 t.result.first t.result.second c.loop-i-test.true
-          f (t.ensures.1 f) (t.ensures.2 f) r.result r.ensures (c.if-not-is_reading.false) c.in_range-taken.result c.in_range-taken.ensures,
-    )
+    let v = some_of c.line.result c.at_line.result c.in_ok-kind.field-0 c.in_ok-kind.ensures.value in
+    let u = some_of c.reading.result c.at_line-in-loop-i.result c.in_ok-ok_or.field-0 c.in_ok-ok_or.ensures.value in
+    let k : SFits w64 (nth c.in_ok-kind.field-0 0) = search rules in
+    let m : SFits w64 (nth c.in_ok-kind.field-0 1) = search rules in
+    let w : reading_held (nth c.in_ok-kind.field-0 0) (nth c.in_ok-kind.field-0 1) ≡ Some c.in_ok-ok_or.field-0 = simp to_z-of_z at (sym c.reading.ensures ∙ u) in
+    rw c.push.ensures.items (readings_more c.loop-i.invariant c.in_ok-kind.field-0 c.loop-i-test.true (sym c.line.ensures ∙ v) c.in_ok-ok_or.field-0 w)
 
 pub returns : goal.returns
-returns c =
-    let a = c.args in
-    let l = c.loop-i in
-    sym (left_end a.s.now a.n a.first a.from l.e l.i l.invariant.2 c.loop-i-test.false)
+returns c = sym (fill_all c.loop-i.invariant c.loop-i-test.false)

@@ -1,59 +1,57 @@
 -- A position is rounded down by its whole part.
-use Rattle.std.proofs.Common.{sym, arith}
-use lib.Ieee.{of_bits, neg}
-use Rattle.sheet_text.proofs.Floor.{plain-asked, plain_size, plain_bad, below-asked, below-size, below_bad, below_up, below-same}
+use Rattle.std.proofs.Common.{◌≡◌, true, false, w64, ℤ, pos, ◌-ℤ◌, ap, sym, ◌∙◌, to_z, of_z, arith}
+use Rattle.std.specs.Prelude.{Option, Some}
+use Rattle.std.proofs.lemmas.Int.{ints}
+use lib.Ieee.{Float, of_bits, neg, lt, of_int, binary64}
+use Rattle.sheets.specs.Metres.{metres_of}
+use Rattle.sheet_text.proofs.Floor.{asked, too_low, too_high, Floored, floored}
 use Rattle.sheet_text.proofs.metres.whole_metres.Goals as goal
+use Rattle.sheet_text.proofs.metres.whole_metres.Goals.{else-x-via-then-x+else-x-2, else-x-via-else-x}
 
-pub truncating_f64_to_u64-t-requires : goal.truncating_f64_to_u64-t-requires
+pub truncating_f64_to_i64-whole-requires : goal.truncating_f64_to_i64-whole-requires
 unfolding of_bits neg
-truncating_f64_to_u64-t-requires c =
-    let h = plain-asked c.args.x c.if-x.true c.if-x-2.true in
+truncating_f64_to_i64-whole-requires c =
+    let h = asked c.args.x c.if-x.true c.if-x-2.true in
     record { lower_bound = h.0; upper_bound = h.1 }
 
-pub overflow_cast-result : goal.overflow_cast-result
-unfolding of_bits neg
-overflow_cast-result c =
-    let h = plain_size c.args.x c.if-x.true c.if-x-2.true in
-    omega (arith, h.0, c.truncating_f64_to_u64-t.ensures)
+-- what is said of the whole part z, and of the float n that is nearest to it
+module _ (x : Float) (z : ℤ) (n : Float) (f : Floored x z) (e : n ≡ of_int binary64 (to_z w64 (of_z w64 z))) where
+  same : to_z w64 (of_z w64 z) ≡ z
+  same = omega (arith, ints)
 
-pub returns-then-x-2 : goal.returns-then-x-2
-unfolding of_bits neg
-returns-then-x-2 c =
-    let h = plain_size c.args.x c.if-x.true c.if-x-2.true in
-    rw (h.1, c.truncating_f64_to_u64-t.ensures)
+  test : lt x n ≡ lt x (of_int binary64 z)
+  test = rw (e, same)
 
-pub returns-then-x : goal.returns-then-x
-unfolding of_bits neg
-returns-then-x c = rw (plain_bad c.args.x c.if-x.true c.if-x-2.false)
+  less : lt x n ≡ true → Some (to_z w64 (of_z w64 (to_z w64 (of_z w64 z) -ℤ pos 1))) ≡ metres_of x
+  less t =
+      let i : to_z w64 (of_z w64 (to_z w64 (of_z w64 z) -ℤ pos 1)) ≡ z -ℤ pos 1 = omega (arith, ints) in
+      ap {B = Option ℤ} Some i ∙ sym (f.less (sym test ∙ t))
 
-pub truncating_f64_to_u64-t-requires-then-x-3 : goal.truncating_f64_to_u64-t-requires-then-x-3
-unfolding of_bits neg
-truncating_f64_to_u64-t-requires-then-x-3 c =
-    let h = below-asked c.args.x c.if-x.false c.if-x-3.true in
-    record { lower_bound = h.0; upper_bound = h.1 }
+  as_is : lt x n ≡ false → Some (to_z w64 (of_z w64 z)) ≡ metres_of x
+  as_is t = ap {B = Option ℤ} Some same ∙ sym (f.same (sym test ∙ t))
 
-pub overflow_cast-u : goal.overflow_cast-u
+pub overflow_sub-result : goal.overflow_sub-result
 unfolding of_bits neg
-overflow_cast-u c =
-    let h = below-size c.args.x c.if-x.false c.if-x-3.true in
-    omega (arith, h, c.truncating_f64_to_u64-t-then-x-3.ensures)
+overflow_sub-result c =
+    let f : Floored c.args.x c.truncating_f64_to_i64-whole.result = rw c.truncating_f64_to_i64-whole.ensures (floored c.args.x c.if-x.true c.if-x-2.true) in
+    omega (arith, ints)
 
-pub overflow_add-result : goal.overflow_add-result
+pub returns-then-x-nearest_i64_to_f64 : goal.returns-then-x-nearest_i64_to_f64
 unfolding of_bits neg
-overflow_add-result c =
-    let h = below-size c.args.x c.if-x.false c.if-x-3.true in
-    omega (arith, h, c.truncating_f64_to_u64-t-then-x-3.ensures)
+returns-then-x-nearest_i64_to_f64 c =
+    let f : Floored c.args.x c.truncating_f64_to_i64-whole.result = rw c.truncating_f64_to_i64-whole.ensures (floored c.args.x c.if-x.true c.if-x-2.true) in
+    less c.args.x c.truncating_f64_to_i64-whole.result c.nearest_i64_to_f64.result f c.nearest_i64_to_f64.ensures c.if-x-nearest_i64_to_f64.true
 
-pub returns-then-u-y : goal.returns-then-u-y
+pub returns-else-x-nearest_i64_to_f64 : goal.returns-else-x-nearest_i64_to_f64
 unfolding of_bits neg
-returns-then-u-y c =
-    sym (below_up c.args.x c.if-x.false c.if-x-3.true c.truncating_f64_to_u64-t-then-x-3.result c.truncating_f64_to_u64-t-then-x-3.ensures c.if-u-y.true)
+returns-else-x-nearest_i64_to_f64 c =
+    let f : Floored c.args.x c.truncating_f64_to_i64-whole.result = rw c.truncating_f64_to_i64-whole.ensures (floored c.args.x c.if-x.true c.if-x-2.true) in
+    as_is c.args.x c.truncating_f64_to_i64-whole.result c.nearest_i64_to_f64.result f c.nearest_i64_to_f64.ensures c.if-x-nearest_i64_to_f64.false
 
-pub returns-then-x-3 : goal.returns-then-x-3
+pub returns-else-x : goal.returns-else-x
 unfolding of_bits neg
-returns-then-x-3 c =
-    sym (below-same c.args.x c.if-x.false c.if-x-3.true c.truncating_f64_to_u64-t-then-x-3.result c.truncating_f64_to_u64-t-then-x-3.ensures c.if-u-y.false)
-
-pub returns : goal.returns
-unfolding of_bits neg
-returns c = rw (below_bad c.args.x c.if-x.false c.if-x-3.false)
+returns-else-x c =
+    elim c.else-x.branch [
+      | else-x-via-then-x+else-x-2 w ↦ sym (too_high c.args.x w.if-x-2.false)
+      | else-x-via-else-x w ↦ sym (too_low c.args.x w.if-x.false)
+    ]
