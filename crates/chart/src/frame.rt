@@ -20,25 +20,6 @@ pub struct Frame {
     pub last: u32,
 }
 
-pub fn least(a: u32, b: u32) -> u32
-    ensures { (result ≤ a) × (result ≤ b) }
-{
-    if a < b { a } else { b }
-}
-
-pub fn greatest(a: u32, b: u32) -> u32
-    ensures { (a ≤ result) × (b ≤ result) }
-{
-    if a < b { b } else { a }
-}
-
-// How far a is above b, 0 where it is not.
-pub fn above(a: u32, b: u32) -> u32
-    ensures { result ≤ a }
-{
-    if b < a { a - b } else { 0 }
-}
-
 // How far `part` is on the way to `whole`, of `room`.
 fn share(part: u32, whole: u32, room: u32) -> u32
     ensures { result ≤ room }
@@ -46,8 +27,8 @@ fn share(part: u32, whole: u32, room: u32) -> u32
     if whole <= part {
         return room;
     }
-    let r = (part as u64) * (room as u64) / (whole as u64);
-    if r < (room as u64) { r as u32 } else { room }
+    let r = u64::from(part) * u64::from(room) / u64::from(whole);
+    r.min(u64::from(room)) as u32
 }
 
 // Where seconds t stand, of all that the plot shows.
@@ -57,9 +38,16 @@ pub fn across(t: u32, last: u32) -> u32
     LEFT + share(t, last, WIDTH)
 }
 
-// Where a place stands; one outside the frame stands at its edge.
-pub fn down(place: u32, f: Frame) -> u32
-    ensures { result ≤ 4500 }
-{
-    BOTTOM - share(above(place, f.low), above(f.high, f.low), BOTTOM - TOP)
+impl Frame {
+    // Where a place stands; one outside the frame stands at its edge.
+    pub fn down(self, place: u32) -> u32
+        ensures { result ≤ 4500 }
+    {
+        BOTTOM
+            - share(
+                place.saturating_sub(self.low),
+                self.high.saturating_sub(self.low),
+                BOTTOM - TOP,
+            )
+    }
 }

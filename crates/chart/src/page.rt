@@ -1,74 +1,44 @@
-// A page of bytes: a text is put on it from a byte on, and the place after it returned. What finds no room is left out.
-ghost use Rattle.std.specs.Prelude.{◌≤◌, length};
+// A page of bytes, on which texts are written one after another. What finds no room is left out, and is an error.
+ghost use Rattle.std.specs.Prelude.{◌≡◌, ◌≤◌, length};
 
-use sheet_text::{Whole, write_field};
+use std::fmt;
 
-pub fn at_most(n: usize, most: usize) -> usize
-    ensures { (result ≤ n) × (result ≤ most) }
-{
-    if n < most { n } else { most }
+#[derive(Drop)]
+pub struct Page<'a> {
+    bytes: &'a mut [u8],
+    len: usize,
+    ghost in_range: { len ≤ length bytes.now },
 }
 
-fn put_byte(page: &mut [u8], at: usize, b: u8) -> usize {
-    if at < page.len() {
-        page[at] = b;
-        return at + 1;
+impl<'a> Page<'a> {
+    pub fn new(bytes: &'a mut [u8]) -> Page<'a>
+        ensures { result.bytes.now ≡ bytes.old }
+    {
+        Page { bytes, len: 0 }
     }
-    at
-}
 
-// A column of a field; a space is left out.
-fn put_column(page: &mut [u8], at: usize, b: u8) -> usize {
-    if b == b' ' { at } else { put_byte(page, at, b) }
-}
-
-// A number by its digits.
-fn put_number(page: &mut [u8], at: usize, number: u32) -> usize {
-    let field = write_field(Whole {
-        below: false,
-        size: number,
-    });
-    let mut to = at;
-    let mut i: usize = 0;
-    while i < 8 {
-        to = put_column(page, to, field[i]);
-        i += 1;
+    // How many bytes are written.
+    pub fn len(&self) -> usize
+        ensures { result ≤ length self.now.bytes.now }
+    {
+        self.len
     }
-    to
-}
 
-// A byte of a text, or for a percent sign the number.
-fn put_part(page: &mut [u8], at: usize, b: u8, number: u32) -> usize {
-    if b == b'%' {
-        put_number(page, at, number)
-    } else {
-        put_byte(page, at, b)
+    fn put(&mut self, b: u8) -> fmt::Result {
+        if self.len < self.bytes.len() {
+            self.bytes[self.len] = b;
+            self.len += 1;
+            return Ok(());
+        }
+        Err(fmt::Error)
     }
 }
 
-// Which of four numbers comes next, after a byte of the text.
-fn next_number(next: usize, b: u8) -> usize
-    ensures { result ≤ 3 }
-{
-    if b == b'%' {
-        (next % 4 + 1) % 4
-    } else {
-        next % 4
+impl fmt::Write for Page<'_> {
+    fn write_str(&mut self, s: &str) -> fmt::Result {
+        for b in s.as_bytes() {
+            self.put(*b)?;
+        }
+        Ok(())
     }
-}
-
-// A text with one of four numbers, in their order, for each of its percent signs.
-pub fn put(page: &mut [u8], at: usize, text: &[u8], numbers: [u32; 4]) -> usize
-    ensures { result ≤ length page.old }
-{
-    let mut to = at;
-    let mut next: usize = 0;
-    let mut i: usize = 0;
-    while i < text.len() {
-        let b = text[i];
-        to = put_part(page, to, b, numbers[next]);
-        next = next_number(next, b);
-        i += 1;
-    }
-    at_most(to, page.len())
 }

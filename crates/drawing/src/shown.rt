@@ -1,53 +1,35 @@
 // What the plot shows of a duty: from the lowest to the highest of its places, and all its seconds.
-ghost use Rattle.std.specs.Prelude.{◌≤◌};
+ghost use Rattle.std.specs.Prelude.{◌≤◌, length};
 
-use crate::Duty;
-use chart::frame::{Frame, above, greatest, least};
+use crate::{Duty, START, Slot};
+use chart::frame::Frame;
 
-// A number, or another where it is 0.
-fn or_else(a: u32, b: u32) -> u32 {
-    if a == 0 { b } else { a }
+// The lower and the higher of a slot's places.
+fn lower(slot: &Slot) -> u32 {
+    slot.smoothed.min(slot.reading.unwrap_or(slot.smoothed))
 }
 
-// The lowest and the highest of all readings and smoothed places.
-#[derive(Clone, Copy)]
-struct Range {
-    low: u32,
-    high: u32,
-}
-
-fn extent(d: Duty) -> Range
-    requires { d.count ≤ 64 }
-{
-    let mut low = d.smoothed[0];
-    let mut high = low;
-    let mut i: usize = 0;
-    while i < d.count {
-        let smoothed = d.smoothed[i];
-        let reading = or_else(d.readings[i], smoothed);
-        low = least(low, least(smoothed, reading));
-        high = greatest(high, greatest(smoothed, reading));
-        i += 1;
-    }
-    Range { low, high }
+fn higher(slot: &Slot) -> u32 {
+    slot.smoothed.max(slot.reading.unwrap_or(slot.smoothed))
 }
 
 // The seconds of one step past the last reading.
 fn seconds(count: usize, step: u32) -> u32
     requires { count ≤ 64 }
 {
-    (count as u32 + 1) * least(step, 99)
+    (count as u32 + 1) * step.min(99)
 }
 
 // The frame of all that is drawn, with a margin below and above.
 pub(crate) fn frame_of(d: Duty) -> Frame
-    requires { d.count ≤ 64 }
+    requires { length d.slots.now ≤ 64 }
 {
-    let e = extent(d);
-    let margin = above(e.high, e.low) / 20 + 200;
+    let low = d.slots.iter().map(lower).min().unwrap_or(START);
+    let high = d.slots.iter().map(higher).max().unwrap_or(START);
+    let margin = high.saturating_sub(low) / 20 + 200;
     Frame {
-        low: above(e.low, margin),
-        high: least(e.high, 4000000000) + margin,
-        last: seconds(d.count, d.step),
+        low: low.saturating_sub(margin),
+        high: high.min(4_000_000_000) + margin,
+        last: seconds(d.slots.len(), d.step),
     }
 }

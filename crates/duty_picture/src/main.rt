@@ -4,16 +4,14 @@
 
 use input::read_full;
 use picture::picture;
-use sheet::Reported;
 use std::io;
 
 // The picture of a sheet, printed.
 fn print_picture(rt: &impl Print, input: &[u8]) -> io::Result<()> {
     let mut output = [0u8; 32768];
-    let told = picture(input, &mut output[..]);
-    match told {
-        Reported::Refused(_) => Ok(()),
-        Reported::Written(count) => rt.write_all(&output[..count]),
+    match picture(input, &mut output[..]) {
+        Ok(count) => rt.write_all(&output[..count]),
+        Err(_) => Ok(()),
     }
 }
 

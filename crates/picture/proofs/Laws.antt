@@ -3,22 +3,21 @@ use mathlib.Core.Path.{◌≡◌, refl, sym, ap, ◌∙◌, subst}
 use mathlib.Core.Bool.{false}
 use mathlib.Core.List.{List, ◌++◌}
 use mathlib.Core.Logic.{⊎_elim}
-use Prim.Native.Nat.{ℕ, ◌*◌, ◌≤◌, ◌<◌}
+use Prim.Native.Nat.{ℕ, ◌*◌, ◌≤◌}
 use native.Mathlib.Omega.{arith}
 use lib.Dec.{ltb}
 use lib.ListN.{length, take, drop, length-append, take-append-drop}
 use lib.Seq.{take_at}
 use borrow.Author.Tests.{le-ltb}
+use Rattle.std.specs.Prelude.{Ok}
+use Rattle.answer.specs.Answer.{Answer}
 use Rattle.sheets.specs.Report.{report}
 use Rattle.sheets.specs.Promise.{AnsweredSheet, RefusedSheet, ReadingLines, no_more, one_more, joined}
 use Rattle.sheets.specs.Sheet.{Sheet}
 use Rattle.sheets.proofs.Printing.{length-refusal}
 use Rattle.sheets.proofs.Printed.{reports}
-use Rattle.sheet.specs.Held.{Stored}
 use Rattle.sheet.specs.Call.{report_told, report_left}
-use Rattle.sheet.specs.declared.Reported.{Reported}
-use Rattle.sheet.specs.declared.Reported.TheVariants.{Written, Refused}
-use Rattle.picture.specs.Picture.{Drawn, Pictured, written_of}
+use Rattle.picture.specs.Picture.{Stored, Drawn, Pictured}
 
 -- the lines of readings are 25 bytes each, so they are never 17 together
 length-joined : {sh : Sheet} {i : ℕ} {texts : List (List ℕ)} → ReadingLines sh i texts → length (joined texts) ≡ 25 * length texts
@@ -30,22 +29,18 @@ never_17 : {s : List ℕ} → AnsweredSheet s → length (report s) ≡ 17 → �
 never_17 a e = omega (arith, ap length a.is_printed, length-joined a.lines)
 
 -- of a report's call with room: the number of its bytes, and that they stand at the start
-pub reported : (s z t : List ℕ) (told : Reported) (n : ℕ) → length z ≡ 1600 → told ≡ report_told (report s) z → t ≡ report_left (report s) z → n ≡ written_of told
+pub reported : (s z t : List ℕ) (n : ℕ) → length z ≡ 1600 → Ok n ≡ report_told (report s) z → t ≡ report_left (report s) z
     → (n ≡ length (report s)) × (take n t ≡ report s)
-reported s z t told n l p q r =
+reported s z t n l p q =
     let f : ltb (length z) 1600 ≡ false = le-ltb (length z) 1600 (omega arith) in
-    let g : report_told (report s) z ≡ Written (length (report s)) = rw f in
+    let g : report_told (report s) z ≡ Ok (length (report s)) = rw f in
     let h : report_left (report s) z ≡ report s ++ drop (length (report s)) z = rw f in
-    let k : n ≡ length (report s) = r ∙ ap written_of (p ∙ g) in
+    let k : n ≡ length (report s) = cc (p ∙ g) in
     (k, rw (k, q, h) (take_at (report s) (drop (length (report s)) z) (length (report s)) refl))
-
--- an output that is too small
-pub small_pictured : (s d : List ℕ) → length d < 32768 → Pictured s d d (Refused 1)
-small_pictured s d short = record { small = λ h. (refl, refl); refused = λ h number line t. absurd (omega arith); answered = λ h a. absurd (omega arith) }
 
 module _ (s d e : List ℕ) (room : 32768 ≤ length d) where
   -- the report is drawn as a picture where it has not 17 bytes
-  pub drawn_pictured : (r : ℕ) → (length (report s) ≡ 17 → ⊥) → Drawn d e r → Pictured s d e (Written r)
+  pub drawn_pictured : (r : ℕ) → (length (report s) ≡ 17 → ⊥) → Drawn d e r → Pictured s d e (Ok r)
   drawn_pictured r other p =
       record {
         small = λ h. absurd (omega arith);
@@ -54,24 +49,24 @@ module _ (s d e : List ℕ) (room : 32768 ≤ length d) where
       }
 
   -- a report of 17 bytes is stored as it is
-  pub refused_pictured : (r : ℕ) → length (report s) ≡ 17 → Stored d e 0 (report s) r → Pictured s d e (Written r)
+  pub refused_pictured : (r : ℕ) → length (report s) ≡ 17 → Stored d e 0 (report s) r → Pictured s d e (Ok r)
   refused_pictured r long p =
       let n : r ≡ 17 = omega (arith, p.next, long) in
       let u : take 17 e ≡ report s = subst (λ (k : ℕ). take k e ≡ report s) n p.upto in
       let v : drop 17 e ≡ drop 17 d = subst (λ (k : ℕ). drop k e ≡ drop k d) n p.rest in
       record {
         small = λ h. absurd (omega arith);
-        refused = λ h number line t. (ap Written n, sym (take-append-drop 17 e) ∙ rw (u, v, t));
+        refused = λ h number line t. (ap {B = Answer ℕ} Ok n, sym (take-append-drop 17 e) ∙ rw (u, v, t));
         answered = λ h a. absurd (never_17 a long);
       }
 
 -- what is written fits the output
-pub pictured_fits : (s d e : List ℕ) (r : Reported) (n : ℕ) → 32768 ≤ length d → Pictured s d e r → r ≡ Written n → n ≤ length d
-pictured_fits s d e r n room p w =
+pub pictured_fits : (s d e : List ℕ) (n : ℕ) → 32768 ≤ length d → Pictured s d e (Ok n) → n ≤ length d
+pictured_fits s d e n room p =
     ⊎_elim
     (λ (a : AnsweredSheet s).
     let q = p.answered room a in
-    let z : n ≡ q.count = cc in
+    let z : n ≡ q.count = cc q.told in
     omega (arith, q.drawn.fits))
     (λ (f : RefusedSheet s).
     let q = p.refused room f.number f.line f.is_printed in

@@ -1,77 +1,75 @@
 // What is drawn of a sheet: its readings, filtered and smoothed, as places, and the stages that smoothing moved.
-ghost use Rattle.std.specs.Prelude.{◌≤◌};
+ghost use Rattle.std.specs.Prelude.{◌≢◌, ◌≤◌, length};
+ghost use Rattle.sheets.specs.Report.{report};
 
-use drawing::{Duty, place_of};
+use drawing::{Duty, Slot, draw, place_of};
 use sheet::seen::{positions_of, stage};
-use sheet_reader::{Reading, SheetRead};
-use sheet_text::metres::{as_float, whole_metres};
-use sheet_text::{Field, Whole};
+use sheet_reader::read_sheet;
+use sheet_text::metres::whole_metres;
+use std::num::nearest_i64_to_f64;
 
 // Whole centimetres of a part of a metre.
 fn centimetres(x: f64) -> u32
     ensures { result ≤ 99 }
 {
     match whole_metres(100.0 * x) {
-        Field::Number(w) => w.size % 100,
-        Field::Bad => 0,
+        Some(w) => (w.unsigned_abs() % 100) as u32,
+        None => 0,
     }
 }
 
 // The place of a position; the start of the road where it has no whole metres.
 fn place(x: f64) -> u32 {
     match whole_metres(x) {
-        Field::Number(w) => place_of(w) + centimetres(x - as_float(w)),
-        Field::Bad => place_of(Whole {
-            below: false,
-            size: 0,
-        }),
+        Some(w) => place_of(w) + centimetres(x - nearest_i64_to_f64(w)),
+        None => place_of(0),
     }
-}
-
-// The place of a reading, 0 where none was taken.
-fn reading_place(reading: Reading) -> u32 {
-    let w = reading.metres;
-    if reading.taken { place_of(w) } else { 0 }
 }
 
 // The stage of a position. Past all whole metres that a sheet takes it is the last, below them the first.
-fn stage_at(ends: [u32; 32], stages: usize, x: f64) -> usize {
+fn stage_at(ends: &[u32], x: f64) -> usize {
     match whole_metres(x) {
-        Field::Number(w) => stage(ends, stages, w),
-        Field::Bad => { if x > 0.0 { stages } else { 1 } }
+        Some(w) => stage(ends, w),
+        None => { if x > 0.0 { ends.len() } else { 1 } }
     }
 }
 
-// The stage by the filter where it is another than the smoothed one, else 0.
-fn moved(ends: [u32; 32], stages: usize, filtered: f64, smoothed: f64) -> u32 {
-    let stage = stage_at(ends, stages, filtered);
-    if stage == stage_at(ends, stages, smoothed) {
-        0
+// The stage by the filter where it is another than the smoothed one.
+fn moved(ends: &[u32], filtered: f64, smoothed: f64) -> Option<u32> {
+    let stage = stage_at(ends, filtered);
+    if stage == stage_at(ends, smoothed) {
+        None
     } else {
-        (stage % 100) as u32
+        Some((stage % 100) as u32)
     }
 }
 
-pub(crate) fn duty_of(sheet: SheetRead) -> Duty {
-    let ends = sheet.ends;
-    let stages = sheet.stages as usize;
-    let p = positions_of(sheet);
-    let mut d = Duty {
-        step: sheet.step,
-        stages,
-        count: sheet.count as usize,
-        ends,
-        readings: [0; 64],
-        smoothed: [0; 64],
-        moved: [0; 64],
-    };
-    let mut i: usize = 0;
-    while i < 64 {
-        let reading = sheet.readings[i];
-        d.readings[i] = reading_place(reading);
-        d.smoothed[i] = place(p.smoothed[i]);
-        d.moved[i] = moved(ends, stages, p.filtered[i], p.smoothed[i]);
-        i += 1;
+// A sheet that is answered, drawn on a page; how many bytes of it are drawn.
+pub(crate) fn draw_sheet(sheet: &[u8], page: &mut [u8]) -> usize
+    requires { length (report sheet.now) ≢ 17 }
+    ensures { result ≤ length page.old }
+{
+    let sheet = read_sheet(sheet).unwrap();
+    let positions = positions_of(&sheet).unwrap();
+    let ends = sheet.ends.as_slice();
+    let mut slots = [Slot {
+        reading: None,
+        smoothed: 0,
+        moved: None,
+    }; 64];
+    for (i, slot) in slots.iter_mut().enumerate() {
+        slot.smoothed = place(positions.smoothed[i]);
+        slot.moved = moved(ends, positions.filtered[i], positions.smoothed[i]);
     }
-    d
+    for (slot, reading) in slots.iter_mut().zip(sheet.readings.as_slice()) {
+        slot.reading = reading.map(place_of);
+    }
+    draw(
+        page,
+        Duty {
+            step: sheet.step,
+            ends,
+            slots: &slots[..sheet.readings.len()],
+        },
+    )
 }

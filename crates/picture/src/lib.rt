@@ -2,14 +2,12 @@
 // proved safe and to end; that it is one `svg` element, where it ends, and everything of a refusal are stated.
 #![tactic(auto)]
 
-ghost use Rattle.std.specs.Prelude.{◌≡◌, ◌+◌, ◌≤◌, length};
-ghost use Rattle.sheet.specs.Held.{Stored};
-ghost use Rattle.picture.specs.Picture.{Drawn, Pictured, written_of};
+ghost use Rattle.std.specs.Prelude.{◌≡◌, ◌≢◌, ◌+◌, ◌≤◌, length};
+ghost use Rattle.sheets.specs.Report.{report};
+ghost use Rattle.picture.specs.Picture.{Drawn, Pictured, Stored};
 
-use drawing::draw;
-use drawn::duty_of;
-use sheet::Reported;
-use sheet_reader::read_sheet;
+use answer::Refusal;
+use drawn::draw_sheet;
 
 mod drawn;
 
@@ -21,32 +19,19 @@ fn store(output: &mut [u8], at: usize, text: &[u8]) -> usize
     requires { at + length text.now ≤ length output.old }
     ensures { Stored output.old output.new at text.now result }
 {
-    let mut i: usize = 0;
-    while i < text.len() {
-        output[at + i] = text[i];
-        i += 1;
-    }
-    at + i
+    let end = at + text.len();
+    output[at..end].copy_from_slice(text);
+    end
 }
 
-// The number of bytes written, none where the output was too small.
-fn written(told: Reported) -> usize
-    ensures { result ≡ written_of told }
-{
-    match told {
-        Reported::Written(n) => n,
-        Reported::Refused(_) => 0,
-    }
-}
-
-// The picture of a sheet, from the output's start on; the number of its bytes.
+// The picture of a sheet that is answered, from the output's start on; the number of its bytes.
 fn put_picture(sheet: &[u8], output: &mut [u8]) -> usize
-    requires { 32768 ≤ length output.old }
+    requires room { 32768 ≤ length output.old }
+    requires answered { length (report sheet.now) ≢ 17 }
     ensures { Drawn output.old output.new result }
 {
     let mut page = [0u8; 32000];
-    let d = duty_of(read_sheet(sheet));
-    let n = draw(&mut page[..], d);
+    let n = draw_sheet(sheet, &mut page[..]);
     let a = store(output, 0, b"<svg");
     let b = store(output, a, &page[..n]);
     store(output, b, b"</svg>\n")
@@ -54,17 +39,17 @@ fn put_picture(sheet: &[u8], output: &mut [u8]) -> usize
 
 // The picture of a sheet from the output's start on, or the sheet's refusal line; the rest of the output stays. An output of fewer
 // than 32,768 bytes is refused with 1 and unchanged.
-pub fn picture(sheet: &[u8], output: &mut [u8]) -> Reported
+pub fn picture(sheet: &[u8], output: &mut [u8]) -> Result<usize, Refusal>
     ensures { Pictured sheet.now output.old output.new result }
 {
     if output.len() < ROOM {
-        return Reported::Refused(1);
+        return Err(Refusal::WrongSize);
     }
     let mut text = [0u8; 1600];
-    let n = written(sheet::report(sheet, &mut text[..]));
+    let n = sheet::report(sheet, &mut text[..])?;
     if n == 17 {
-        Reported::Written(store(output, 0, &text[..17]))
+        Ok(store(output, 0, &text[..17]))
     } else {
-        Reported::Written(put_picture(sheet, output))
+        Ok(put_picture(sheet, output))
     }
 }
