@@ -1,10 +1,42 @@
-// The words of a call on a filter: its sizes, its parts as they lie in its slice, and steps, of a letter and numbers each.
-ghost use Rattle.std.specs.Prelude.{◌≤◌};
+// The words of a call on a filter: its sizes, its parts as they lie in its slice, and steps, of a letter and numbers each; and how
+// the calls on a filter of any kind are replayed.
+ghost use Rattle.std.specs.Prelude.{◌≡◌, ◌<◌, ◌≤◌, length, IfSome, IfErr};
+ghost use Rattle.protocol.specs.Left.{left};
 
-use crate::words::{C, F, P, R, S, U, cells, count_at};
+use crate::given::Answer;
+use crate::names::Filtering;
+use crate::values::Values;
+use crate::words::cells;
 
-// The letter of no step.
-pub const N: u64 = 78;
+#[derive(Clone, Copy, Debug, PartialEq, Eq)]
+pub enum Letter {
+    Covariance = b'C' as isize,
+    Fuse = b'F' as isize,
+    Predict = b'P' as isize,
+    Reset = b'R' as isize,
+    State = b'S' as isize,
+    Update = b'U' as isize,
+}
+
+// A byte that is no step's letter.
+#[derive(Clone, Copy, Debug, PartialEq, Eq)]
+pub struct NoLetter;
+
+impl TryFrom<u8> for Letter {
+    type Error = NoLetter;
+
+    fn try_from(b: u8) -> Result<Letter, NoLetter> {
+        match b {
+            b'C' => Ok(Letter::Covariance),
+            b'F' => Ok(Letter::Fuse),
+            b'P' => Ok(Letter::Predict),
+            b'R' => Ok(Letter::Reset),
+            b'S' => Ok(Letter::State),
+            b'U' => Ok(Letter::Update),
+            _ => Err(NoLetter),
+        }
+    }
+}
 
 #[derive(Clone, Copy)]
 pub struct Sizes {
@@ -13,58 +45,196 @@ pub struct Sizes {
     pub i: usize,
 }
 
-// Where the parts b, h, q, r, x and p begin in a filter, and where p ends; an information filter has xi and omega for x and p.
+impl Sizes {
+    pub fn read(words: &mut Values<'_>) -> Option<Sizes>
+        ensures { length words.new.rest.now ≤ length words.old.rest.now }
+    {
+        let n = words.size()?;
+        let m = words.size()?;
+        let i = words.size()?;
+        Some(Sizes { n, m, i })
+    }
+
+    // How many numbers a state has.
+    pub fn state(self) -> usize
+        ensures { result ≤ 16 }
+    {
+        cells(self.n, 1)
+    }
+
+    // How many numbers a covariance has.
+    pub fn square(self) -> usize
+        ensures { result ≤ 16 }
+    {
+        cells(self.n, self.n)
+    }
+
+    // How many numbers a sensor takes.
+    pub fn sensor(self) -> usize
+        ensures { result ≤ 48 }
+    {
+        cells(self.m, self.n) + cells(self.m, self.m) + cells(self.m, 1)
+    }
+}
+
+// The matrices a, b, h, q and r, by rows.
 #[derive(Clone, Copy)]
-pub struct Parts(
-    pub usize,
-    pub usize,
-    pub usize,
-    pub usize,
-    pub usize,
-    pub usize,
-    pub usize,
-);
-
-pub fn parts_of(s: Sizes) -> Parts
-    ensures { (result.4 ≤ 80) × (result.6 ≤ 112) }
-{
-    let square = cells(s.n, s.n);
-    let h = square + cells(s.n, s.i);
-    let q = h + cells(s.m, s.n);
-    let r = q + square;
-    let x = r + cells(s.m, s.m);
-    let p = x + cells(s.n, 1);
-    Parts(square, h, q, r, x, p, p + square)
+pub struct Model<'a> {
+    pub a: &'a [f64],
+    pub b: &'a [f64],
+    pub h: &'a [f64],
+    pub q: &'a [f64],
+    pub r: &'a [f64],
 }
 
-// How many numbers a sensor takes.
-pub fn sensor_cells(s: Sizes) -> usize
-    ensures { result ≤ 48 }
-{
-    cells(s.m, s.n) + cells(s.m, s.m) + cells(s.m, 1)
-}
-
-// How many numbers a step with the values v from `at` on takes; those of sensors stand behind their count.
-pub fn step_cells(letter: u64, s: Sizes, v: &[f64], at: usize) -> usize
-    ensures { result ≤ 47953 }
-{
-    match letter {
-        P => cells(s.i, 1),
-        U => cells(s.m, 1),
-        R => cells(s.n, 1) + cells(s.n, s.n),
-        F => 1 + count_at(v, at) * sensor_cells(s),
-        _ => 0,
+impl<'a> Model<'a> {
+    // With that many numbers for r.
+    pub fn read(s: Sizes, noise: usize, words: &mut Values<'a>) -> Option<Model<'a>>
+        ensures { IfSome result (λ k. length k.r.now ≡ noise) }
+    {
+        let a = words.take(s.square())?;
+        let b = words.take(cells(s.n, s.i))?;
+        let h = words.take(cells(s.m, s.n))?;
+        let q = words.take(s.square())?;
+        let r = words.take(noise)?;
+        Some(Model { a, b, h, q, r })
     }
 }
 
-// How many numbers a step answers.
-pub fn told_cells(letter: u64, s: Sizes) -> usize
-    ensures { result ≤ 16 }
-{
-    match letter {
-        U => cells(s.m, 1),
-        S => cells(s.n, 1),
-        C => cells(s.n, s.n),
-        _ => 0,
+// A step with its numbers.
+#[derive(Clone, Copy)]
+pub enum Step<'a> {
+    Nothing,
+    Covariance,
+    Fuse(usize, &'a [f64]),
+    Predict(&'a [f64]),
+    Reset(&'a [f64], &'a [f64]),
+    State,
+    Update(&'a [f64]),
+}
+
+impl Step<'_> {
+    // How many numbers it tells.
+    pub fn told_cells(self, s: Sizes) -> usize
+        ensures { result ≤ 16 }
+    {
+        match self {
+            Step::Covariance => s.square(),
+            Step::State => s.state(),
+            Step::Update(_) => cells(s.m, 1),
+            Step::Nothing | Step::Fuse(_, _) | Step::Predict(_) | Step::Reset(_, _) => 0,
+        }
     }
+}
+
+impl Letter {
+    // The step whose numbers are the next words.
+    pub fn step<'a>(self, s: Sizes, words: &mut Values<'a>) -> Option<Step<'a>>
+        ensures { length words.new.rest.now ≤ length words.old.rest.now }
+    {
+        match self {
+            Letter::Covariance => Some(Step::Covariance),
+            Letter::State => Some(Step::State),
+            Letter::Predict => Some(Step::Predict(words.take(cells(s.i, 1))?)),
+            Letter::Update => Some(Step::Update(words.take(cells(s.m, 1))?)),
+            Letter::Reset => {
+                let x = words.take(s.state())?;
+                let p = words.take(s.square())?;
+                Some(Step::Reset(x, p))
+            }
+            Letter::Fuse => {
+                let count = words.count()?;
+                let sensors = words.take(count * s.sensor())?;
+                Some(Step::Fuse(count, sensors))
+            }
+        }
+    }
+}
+
+// A kind of filter: its calls through the C functions, on its slice. These take the sizes beside the slice, and so do the methods.
+pub trait Filter {
+    // How many numbers r has.
+    fn noise(s: Sizes) -> usize
+        ensures { result ≤ 16 };
+
+    // The filter of the words, new or as its slice holds it; none, if they make no call.
+    fn make(
+        is_new: bool,
+        s: Sizes,
+        words: &mut Values<'_>,
+        filter: &mut [f64],
+    ) -> Option<Result<(), u8>>
+        ensures { IfSome result (λ made. IfErr made (λ refusal. 0 < refusal)) };
+
+    // Takes the step, and answers what it tells.
+    fn take<'a>(
+        step: Step<'_>,
+        s: Sizes,
+        filter: &mut [f64],
+        given: Answer<'a>,
+    ) -> Option<Answer<'a>>
+        ensures { IfSome result (λ a. left a < left given.entry) };
+
+    // Answers what the filter leaves.
+    fn left<'a>(s: Sizes, filter: &[f64], given: Answer<'a>) -> Option<Answer<'a>>
+        ensures { IfSome result (λ a. left a ≤ left given.entry) };
+
+    fn length(s: Sizes) -> usize
+        ensures { result ≤ 112 }
+    {
+        let model = 2 * s.square() + cells(s.n, s.i) + cells(s.m, s.n) + Self::noise(s);
+        model + s.state() + s.square()
+    }
+}
+
+fn taken<'a, F: Filter>(
+    step: Step<'_>,
+    s: Sizes,
+    filter: &mut [f64],
+    given: Answer<'a>,
+) -> Option<Answer<'a>>
+    ensures { IfSome result (λ a. left a < left given.entry) }
+{
+    let told = F::take(step, s, filter, given)?;
+    F::left(s, filter, told.text(b"|")?)
+}
+
+// The first step, and the others to the end of the words, each behind its letter.
+fn steps<'a, F: Filter>(
+    first: Step<'_>,
+    s: Sizes,
+    words: &mut Values<'_>,
+    filter: &mut [f64],
+    given: Answer<'a>,
+) -> Option<Answer<'a>>
+    ensures { IfSome result (λ a. left a < left given.entry) }
+{
+    let mut left = taken::<F>(first, s, filter, given)?;
+    while !words.is_end() {
+        let letter = words.letter()?;
+        let next = letter.step(s, words)?;
+        left = taken::<F>(next, s, filter, left.text(b";")?)?;
+    }
+    Some(left)
+}
+
+// The words behind the sizes, and the answer given.
+pub fn replay<'a, F: Filter>(
+    op: Filtering,
+    s: Sizes,
+    words: &mut Values<'_>,
+    filter: &mut [f64],
+    given: Answer<'a>,
+) -> Option<Answer<'a>>
+    ensures { IfSome result (λ a. left a < left given.entry) }
+{
+    if let Err(refusal) = F::make(op == Filtering::New, s, words, filter)? {
+        return given.told(Err(refusal));
+    }
+    let first = match op {
+        Filtering::New | Filtering::Held => Step::Nothing,
+        Filtering::Step(letter) => letter.step(s, words)?,
+        Filtering::Steps => words.letter()?.step(s, words)?,
+    };
+    steps::<F>(first, s, words, filter, given)
 }

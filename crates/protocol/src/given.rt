@@ -1,90 +1,85 @@
-// The answer given, word by word beside what was found. Each function takes the place of the next word and gives the place
-// after it; where another word stands there it gives LOST. No place goes back, so that a lost one stays lost.
-ghost use Rattle.std.specs.Prelude.{◌≡◌, ◌+◌, ◌≤◌, eqb, length};
+// What is left of the answer given. Each method takes the next word and gives what is left after it; where another word stands
+// there it gives none, so that a lost answer stays lost.
+ghost use Rattle.std.specs.Prelude.{◌≡◌, ◌↔◌, ◌<◌, ◌≤◌, IsTrue, IsNone, IfSome, IfOk, IfErr};
+ghost use Rattle.protocol.specs.Left.{left};
 
-use crate::words::{NUMBER, TEXT, WHOLE, piece, to_bits, value_of};
+use crate::words::{Value, cut, to_bits};
 
-pub const LOST: usize = usize::MAX;
+#[derive(Drop)]
+pub struct Answer<'a> {
+    rest: Option<&'a [u8]>,
+}
 
-// The texts of an answer, by their bytes: ok, refused, | and ;
-pub const OK: u64 = 0x6f6b;
-
-const REFUSED: u64 = 0x72_6566_7573_6564;
-
-pub const BAR: u64 = 0x7c;
-
-pub const THEN: u64 = 0x3b;
-
-fn value(given: &[u8], at: usize, kind: u8, bits: u64) -> usize
-    ensures { at ≤ result }
+// What C's function leaves, or the number of its refusal.
+pub fn outcome<T: Drop>(status: u8, left: T) -> Result<T, u8>
+    ensures ok { IfOk result (λ x. (status ≡ 0) × (x ≡ left)) }
+    ensures err { IfErr result (λ refusal. (0 < refusal) × (refusal ≡ status)) }
 {
-    let word = piece(given, at, b' ');
-    let v = value_of(word);
-    if at < LOST {
-        if (v.kind == kind) & (v.bits == bits) {
-            return at + word.len() + 1;
+    if status == 0 { Ok(left) } else { Err(status) }
+}
+
+impl<'a> Answer<'a> {
+    pub fn new(line: &'a [u8]) -> Answer<'a>
+        ensures { result.rest ≡ Some line.entry }
+    {
+        Answer { rest: Some(line) }
+    }
+
+    fn word(self) -> Option<(&'a [u8], Answer<'a>)>
+        ensures { IfSome result (λ p. left p.1 < left self.entry) }
+    {
+        let (word, rest) = cut(self.rest?, b' ');
+        Some((word, Answer { rest }))
+    }
+
+    fn value(self, value: Value) -> Option<Answer<'a>>
+        ensures { IfSome result (λ a. left a < left self.entry) }
+    {
+        let (word, rest) = self.word()?;
+        if Value::of(word) == Some(value) {
+            Some(rest)
+        } else {
+            None
         }
     }
-    LOST
-}
 
-pub fn text(given: &[u8], at: usize, bytes: u64) -> usize
-    ensures { at ≤ result }
-{
-    value(given, at, TEXT, bytes)
-}
-
-// A count, or a refusal's number.
-pub fn count(given: &[u8], at: usize, n: u64) -> usize
-    ensures { at ≤ result }
-{
-    value(given, at, WHOLE, n)
-}
-
-pub fn numbers(given: &[u8], at: usize, found: &[f64]) -> usize
-    ensures { at ≤ result }
-{
-    let mut to = at;
-    let mut i = 0;
-    while i < found.len() {
-        to = value(given, to, NUMBER, to_bits(found[i]));
-        i += 1;
+    pub fn text(self, text: &[u8]) -> Option<Answer<'a>>
+        ensures { IfSome result (λ a. left a < left self.entry) }
+    {
+        let (word, rest) = self.word()?;
+        if word == text { Some(rest) } else { None }
     }
-    to
-}
 
-// `ok` and the numbers, or `refused` and the refusal's number.
-pub fn told(given: &[u8], at: usize, status: u8, found: &[f64]) -> usize
-    ensures { at ≤ result }
-{
-    if status == 0 {
-        numbers(given, text(given, at, OK), found)
-    } else {
-        count(given, text(given, at, REFUSED), status as u64)
+    // A count, or a refusal's number.
+    pub fn count(self, n: u64) -> Option<Answer<'a>>
+        ensures { IfSome result (λ a. left a < left self.entry) }
+    {
+        self.value(Value::Whole(n))
     }
-}
 
-// Numbers left behind, of a call that answers them.
-pub fn left(given: &[u8], at: usize, status: u8, found: &[f64]) -> usize
-    ensures { at ≤ result }
-{
-    if status == 0 {
-        numbers(given, at, found)
-    } else {
-        LOST
+    pub fn numbers(self, found: &[f64]) -> Option<Answer<'a>>
+        ensures { IfSome result (λ a. left a ≤ left self.entry) }
+    {
+        let mut left = self;
+        for x in found {
+            left = left.value(Value::Number(to_bits(*x)))?;
+        }
+        Some(left)
     }
-}
 
-// The place itself, if what came before was answered.
-pub fn start(at: usize, status: u8) -> usize
-    ensures { (at ≤ result) × (status ≡ 0 → result ≡ at) }
-{
-    if status == 0 { at } else { LOST }
-}
+    // `ok` and the numbers, or `refused` and the refusal's number.
+    pub fn told(self, outcome: Result<&[f64], u8>) -> Option<Answer<'a>>
+        ensures { IfSome result (λ a. left a < left self.entry) }
+    {
+        match outcome {
+            Ok(found) => self.text(b"ok")?.numbers(found),
+            Err(refusal) => self.text(b"refused")?.count(refusal as u64),
+        }
+    }
 
-// Whether the place is behind the last word.
-pub fn is_end(given: &[u8], at: usize) -> bool
-    ensures { result ≡ eqb at (length given.now + 1) }
-{
-    at == given.len() + 1
+    pub fn is_end(&self) -> bool
+        ensures { IsTrue result ↔ IsNone self.now.rest }
+    {
+        self.rest.is_none()
+    }
 }

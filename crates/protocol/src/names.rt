@@ -1,133 +1,197 @@
-// The operations by their places in the list of names that the report goes by (crates/replay/src/main.rt).
-
-pub const CONSTS: usize = 0;
-
-pub const SQRT: usize = 1;
-
-pub const ABS: usize = 2;
-
-pub const CLAMP_VAL: usize = 3;
-
-pub const SATURATE: usize = 4;
-
-pub const FROM_F64: usize = 5;
-
-pub const TO_F64: usize = 6;
-
-pub const FROM_INT: usize = 7;
-
-pub const PID_ABS: usize = 8;
-
-pub const CLAMP_PID: usize = 9;
-
-pub const ZEROS: usize = 10;
-
-pub const DEFAULT: usize = 11;
-
-pub const FILLED: usize = 12;
-
-pub const IDENTITY: usize = 13;
-
-pub const TRANSPOSE: usize = 14;
-
-pub const ADD_MAT: usize = 15;
-
-pub const SUB_MAT: usize = 16;
-
-pub const EQ: usize = 17;
-
-pub const SCALE: usize = 18;
-
-pub const NEG: usize = 19;
-
-pub const FROB_NORM: usize = 20;
-
-pub const TRACE: usize = 21;
-
-pub const GET: usize = 22;
-
-pub const SET: usize = 23;
-
-pub const MATMUL: usize = 24;
-
-pub const MATVEC: usize = 25;
-
-pub const OUTER: usize = 26;
-
-pub const VEC_ADD: usize = 27;
-
-pub const VEC_SUB: usize = 28;
-
-pub const VEC_DOT: usize = 29;
-
-pub const VEC_SCALE: usize = 30;
-
-pub const VEC_NORM: usize = 31;
-
-pub const INV: usize = 32;
-
-pub const CHOLESKY: usize = 33;
-
-pub const KF_NEW: usize = 34;
-
-pub const KF_PREDICT: usize = 35;
-
-pub const KF_UPDATE: usize = 36;
-
-pub const KF_RESET: usize = 37;
-
-pub const KF_POSVEL: usize = 38;
-
-pub const KF_SEQ: usize = 39;
-
-pub const IF_NEW: usize = 40;
-
-pub const IF_FROM_INFORMATION: usize = 41;
-
-pub const IF_PREDICT: usize = 42;
-
-pub const IF_UPDATE: usize = 43;
-
-pub const IF_STATE: usize = 44;
-
-pub const IF_COV: usize = 45;
-
-pub const IF_RESET: usize = 46;
-
-pub const IF_FUSE: usize = 47;
-
-pub const IF_SEQ: usize = 48;
-
-pub const SQ_NEW: usize = 49;
-
-pub const SQ_FROM_CHOLESKY: usize = 50;
-
-pub const SQ_PREDICT: usize = 51;
-
-pub const SQ_UPDATE: usize = 52;
-
-pub const SQ_COV: usize = 53;
-
-pub const SQ_RESET: usize = 54;
-
-pub const SQ_SEQ: usize = 55;
-
-pub const IMM_NEW: usize = 56;
-
-pub const IMM_MIX: usize = 57;
-
-pub const IMM_PROBS: usize = 58;
-
-pub const IMM_FUSED: usize = 59;
-
-pub const IMM_PROB: usize = 60;
-
-pub const RTS_STORE: usize = 61;
-
-pub const RTS_GET: usize = 62;
-
-pub const RTS_SMOOTH: usize = 63;
-
-pub const RTS_STALE: usize = 64;
-// Any other name.
-pub const OTHERS: usize = 65;
+// The operations, by the module of the Rust whose functions they call, and the list of their names that the report goes by.
+ghost use Rattle.std.specs.Prelude.{◌<◌, IfSome};
+
+use crate::filter::Letter;
+
+#[derive(Clone, Copy, Debug, PartialEq, Eq)]
+pub enum Scalar {
+    Consts,
+    Sqrt,
+    Abs,
+    ClampVal,
+    Saturate,
+    FromF64,
+    ToF64,
+    FromInt,
+    PidAbs,
+    ClampPid,
+}
+
+// A matrix of no, of one or of two slices; a number; whether two are equal.
+#[derive(Clone, Copy, Debug, PartialEq, Eq)]
+pub enum Matrix {
+    Made(Made),
+    OfOne(OfOne),
+    OfTwo(OfTwo),
+    Number(Number),
+    Equal,
+}
+
+#[derive(Clone, Copy, Debug, PartialEq, Eq)]
+pub enum Made {
+    Zeros,
+    Default,
+    Filled,
+    Identity,
+}
+
+#[derive(Clone, Copy, Debug, PartialEq, Eq)]
+pub enum OfOne {
+    Transpose,
+    Scale,
+    Neg,
+    Set,
+    VecScale,
+    Inv,
+    Cholesky,
+}
+
+#[derive(Clone, Copy, Debug, PartialEq, Eq)]
+pub enum OfTwo {
+    Add,
+    Sub,
+    MatMul,
+    MatVec,
+    Outer,
+    VecAdd,
+    VecSub,
+}
+
+#[derive(Clone, Copy, Debug, PartialEq, Eq)]
+pub enum Number {
+    FrobNorm,
+    Trace,
+    Get,
+    VecDot,
+    VecNorm,
+}
+
+// A filter made anew or of the parts that it holds; one step with it; steps, each behind its letter.
+#[derive(Clone, Copy, Debug, PartialEq, Eq)]
+pub enum Filtering {
+    New,
+    Held,
+    Step(Letter),
+    Steps,
+}
+
+#[derive(Clone, Copy, Debug, PartialEq, Eq)]
+pub enum Mixing {
+    New,
+    Mix,
+    Probabilities,
+    Fused,
+    Probability,
+}
+
+#[derive(Clone, Copy, Debug, PartialEq, Eq)]
+pub enum Smoothing {
+    Store,
+    Get,
+    Smooth,
+    Stale,
+}
+
+#[derive(Clone, Copy, Debug, PartialEq, Eq)]
+pub enum Op {
+    Scalar(Scalar),
+    Matrix(Matrix),
+    Linear(Filtering),
+    PositionVelocity,
+    Information(Filtering),
+    SquareRoot(Filtering),
+    Mixing(Mixing),
+    Smoothing(Smoothing),
+}
+
+pub const COUNT: usize = 65;
+
+pub const OPS: [(&str, Op); COUNT] = [
+    ("consts", Op::Scalar(Scalar::Consts)),
+    ("sqrt", Op::Scalar(Scalar::Sqrt)),
+    ("abs", Op::Scalar(Scalar::Abs)),
+    ("clamp_val", Op::Scalar(Scalar::ClampVal)),
+    ("saturate", Op::Scalar(Scalar::Saturate)),
+    ("from_f64", Op::Scalar(Scalar::FromF64)),
+    ("to_f64", Op::Scalar(Scalar::ToF64)),
+    ("from_int", Op::Scalar(Scalar::FromInt)),
+    ("pid_abs", Op::Scalar(Scalar::PidAbs)),
+    ("clamp_pid", Op::Scalar(Scalar::ClampPid)),
+    ("zeros", Op::Matrix(Matrix::Made(Made::Zeros))),
+    ("default", Op::Matrix(Matrix::Made(Made::Default))),
+    ("filled", Op::Matrix(Matrix::Made(Made::Filled))),
+    ("identity", Op::Matrix(Matrix::Made(Made::Identity))),
+    ("transpose", Op::Matrix(Matrix::OfOne(OfOne::Transpose))),
+    ("add_mat", Op::Matrix(Matrix::OfTwo(OfTwo::Add))),
+    ("sub_mat", Op::Matrix(Matrix::OfTwo(OfTwo::Sub))),
+    ("eq", Op::Matrix(Matrix::Equal)),
+    ("scale", Op::Matrix(Matrix::OfOne(OfOne::Scale))),
+    ("neg", Op::Matrix(Matrix::OfOne(OfOne::Neg))),
+    ("frob_norm", Op::Matrix(Matrix::Number(Number::FrobNorm))),
+    ("trace", Op::Matrix(Matrix::Number(Number::Trace))),
+    ("get", Op::Matrix(Matrix::Number(Number::Get))),
+    ("set", Op::Matrix(Matrix::OfOne(OfOne::Set))),
+    ("matmul", Op::Matrix(Matrix::OfTwo(OfTwo::MatMul))),
+    ("matvec", Op::Matrix(Matrix::OfTwo(OfTwo::MatVec))),
+    ("outer", Op::Matrix(Matrix::OfTwo(OfTwo::Outer))),
+    ("vec_add", Op::Matrix(Matrix::OfTwo(OfTwo::VecAdd))),
+    ("vec_sub", Op::Matrix(Matrix::OfTwo(OfTwo::VecSub))),
+    ("vec_dot", Op::Matrix(Matrix::Number(Number::VecDot))),
+    ("vec_scale", Op::Matrix(Matrix::OfOne(OfOne::VecScale))),
+    ("vec_norm", Op::Matrix(Matrix::Number(Number::VecNorm))),
+    ("inv", Op::Matrix(Matrix::OfOne(OfOne::Inv))),
+    ("cholesky", Op::Matrix(Matrix::OfOne(OfOne::Cholesky))),
+    ("kf_new", Op::Linear(Filtering::Held)),
+    ("kf_predict", Op::Linear(Filtering::Step(Letter::Predict))),
+    ("kf_update", Op::Linear(Filtering::Step(Letter::Update))),
+    ("kf_reset", Op::Linear(Filtering::Step(Letter::Reset))),
+    ("kf_posvel", Op::PositionVelocity),
+    ("kf_seq", Op::Linear(Filtering::Steps)),
+    ("if_new", Op::Information(Filtering::New)),
+    ("if_from_information", Op::Information(Filtering::Held)),
+    (
+        "if_predict",
+        Op::Information(Filtering::Step(Letter::Predict)),
+    ),
+    (
+        "if_update",
+        Op::Information(Filtering::Step(Letter::Update)),
+    ),
+    ("if_state", Op::Information(Filtering::Step(Letter::State))),
+    (
+        "if_cov",
+        Op::Information(Filtering::Step(Letter::Covariance)),
+    ),
+    ("if_reset", Op::Information(Filtering::Step(Letter::Reset))),
+    ("if_fuse", Op::Information(Filtering::Step(Letter::Fuse))),
+    ("if_seq", Op::Information(Filtering::Steps)),
+    ("sq_new", Op::SquareRoot(Filtering::New)),
+    ("sq_from_cholesky", Op::SquareRoot(Filtering::Held)),
+    (
+        "sq_predict",
+        Op::SquareRoot(Filtering::Step(Letter::Predict)),
+    ),
+    ("sq_update", Op::SquareRoot(Filtering::Step(Letter::Update))),
+    (
+        "sq_cov",
+        Op::SquareRoot(Filtering::Step(Letter::Covariance)),
+    ),
+    ("sq_reset", Op::SquareRoot(Filtering::Step(Letter::Reset))),
+    ("sq_seq", Op::SquareRoot(Filtering::Steps)),
+    ("imm_new", Op::Mixing(Mixing::New)),
+    ("imm_mix", Op::Mixing(Mixing::Mix)),
+    ("imm_probs", Op::Mixing(Mixing::Probabilities)),
+    ("imm_fused", Op::Mixing(Mixing::Fused)),
+    ("imm_prob", Op::Mixing(Mixing::Probability)),
+    ("rts_store", Op::Smoothing(Smoothing::Store)),
+    ("rts_get", Op::Smoothing(Smoothing::Get)),
+    ("rts_smooth", Op::Smoothing(Smoothing::Smooth)),
+    ("rts_stale", Op::Smoothing(Smoothing::Stale)),
+];
+
+// The place in the list of the operation of that name.
+pub fn place_of(name: &[u8]) -> Option<usize>
+    ensures { IfSome result (λ k. k < COUNT) }
+{
+    OPS.iter().position(|(known, _)| known.as_bytes() == name)
+}

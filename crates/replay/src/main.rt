@@ -3,46 +3,46 @@
 // are the pairs that disagree, and then how many calls of each operation agreed.
 #![tactic(auto)]
 
+ghost use Rattle.std.specs.Prelude.{◌<◌, ◌≤◌, length, IfSome};
+ghost use Rattle.protocol.specs.Left.{left};
+
 use input::read_full;
-use protocol::{given, names, words};
+use protocol::given::Answer;
+use protocol::names::{OPS, Op, place_of};
+use protocol::values::Values;
+use protocol::words::{cut, read_values};
 use std::io;
+use tally::Tally;
 
 mod scalars;
 mod tally;
 
-// The place in the answer that the operation reaches from its first word, which stands at 0.
-fn place_of(op: usize, v: &[f64], given: &[u8]) -> usize {
-    if op <= names::CLAMP_PID {
-        return scalars::place_of(op, v, given, 0);
-    }
-    if op <= names::CHOLESKY {
-        return replay_matrices::place_of(op, v, given, 0);
-    }
-    if op <= names::IF_SEQ {
-        return replay_filters::place_of(op, v, given, 0);
-    }
-    if op <= names::SQ_SEQ {
-        return replay_sqrt::place_of(op, v, given, 0);
-    }
-    if op <= names::IMM_PROB {
-        return replay_imm::place_of(op, v, given, 0);
-    }
-    if op < names::OTHERS {
-        replay_smoothers::place_of(op, v, given, 0)
-    } else {
-        given::LOST
+// What is left of the answer given behind that of the call, if it begins with that.
+fn answer<'a>(op: Op, words: Values<'_>, given: Answer<'a>) -> Option<Answer<'a>>
+    ensures { IfSome result (λ a. left a < left given.entry) }
+{
+    match op {
+        Op::Scalar(op) => scalars::answer(op, words, given),
+        Op::Matrix(op) => replay_matrices::answer(op, words, given),
+        Op::Linear(op) => replay_filters::answer(op, words, given),
+        Op::PositionVelocity => replay_filters::position_velocity(words, given),
+        Op::Information(op) => replay_information::answer(op, words, given),
+        Op::SquareRoot(op) => replay_sqrt::answer(op, words, given),
+        Op::Mixing(op) => replay_imm::answer(op, words, given),
+        Op::Smoothing(op) => replay_smoothers::answer(op, words, given),
     }
 }
 
 // Whether the call's answer is the one given. A call that cannot be understood never agrees.
-fn agrees(op: usize, call: &[u8], given: &[u8]) -> bool {
-    let mut v = [0.0; 8192];
-    let r = words::read_values(call, &mut v);
-    let count = r.count;
-    if r.is_call {
-        given::is_end(given, place_of(op, &v[0..count], given))
-    } else {
-        false
+fn agrees(op: Op, call: &[u8], given: &[u8]) -> bool {
+    let mut values = [0.0; 8192];
+    let Some(count) = read_values(call, &mut values) else {
+        return false;
+    };
+    let words = Values::new(&values[..count]);
+    match answer(op, words, Answer::new(given)) {
+        Some(left) => left.is_end(),
+        None => false,
     }
 }
 
@@ -55,17 +55,27 @@ fn print_pair(rt: &impl Print, line: u64, call: &[u8], given: &[u8]) -> io::Resu
     println!(rt; "")
 }
 
+// The operation at that place in the list. A function of its own: where it stands with other code, the check of the list does not end.
+fn op_at(k: usize) -> Option<Op> {
+    let (_, op) = OPS.get(k)?;
+    Some(*op)
+}
+
 // A call counted, and printed where it disagrees.
 fn count(
     rt: &impl Print,
-    tally: &mut [u64],
-    op: usize,
+    tally: &mut Tally,
     line: u64,
     call: &[u8],
     given: &[u8],
 ) -> io::Result<()> {
-    let is_good = agrees(op, call, given);
-    tally::add(tally, op, is_good);
+    let (name, _) = cut(call, b' ');
+    let place = place_of(name);
+    let is_good = match place.and_then(op_at) {
+        Some(op) => agrees(op, call, given),
+        None => false,
+    };
+    tally.add(place, is_good);
     if is_good {
         Ok(())
     } else {
@@ -73,35 +83,34 @@ fn count(
     }
 }
 
+// The first line of the list, and what follows it.
+fn cut_line(list: &[u8]) -> (&[u8], &[u8])
+    ensures within { length result.1.now ≤ length list.now }
+    ensures less { 0 < length list.now → length result.1.now < length list.now }
+{
+    let (line, rest) = cut(list, b'\n');
+    (line, rest.unwrap_or(b""))
+}
+
 // Pair after pair, to the end of the list.
-fn replay(rt: &impl Print, list: &[u8], names: &[u8], tally: &mut [u64]) -> io::Result<()> {
-    let mut at = 0;
+fn replay(rt: &impl Print, list: &[u8], tally: &mut Tally) -> io::Result<()> {
+    let mut rest = list;
     let mut line = 1;
-    while at < list.len() {
-        let call = words::piece(list, at, b'\n');
-        let next = at + call.len() + 1;
-        let given = words::piece(list, next, b'\n');
-        let op = tally::index_of(names, words::piece(call, 0, b' '));
-        count(rt, tally, op, line, call, given)?;
-        at = next + given.len() + 1;
+    while !rest.is_empty() {
+        let (call, after) = cut_line(rest);
+        let (given, next) = cut_line(after);
+        count(rt, tally, line, call, given)?;
+        rest = next;
         line = line.wrapping_add(2);
     }
     Ok(())
 }
 
-// The names stand at the places that protocol::names gives them.
 fn replay_input(rt: HostRuntime, list: &mut [u8]) -> io::Result<()> {
-    let mut tally = [0u64; 80];
-    let names =
-        b"consts sqrt abs clamp_val saturate from_f64 to_f64 from_int pid_abs clamp_pid zeros default filled \
-        identity transpose add_mat sub_mat eq scale neg frob_norm trace get set matmul matvec outer vec_add \
-        vec_sub vec_dot vec_scale vec_norm inv cholesky kf_new kf_predict kf_update kf_reset kf_posvel \
-        kf_seq if_new if_from_information if_predict if_update if_state if_cov if_reset if_fuse if_seq \
-        sq_new sq_from_cholesky sq_predict sq_update sq_cov sq_reset sq_seq imm_new imm_mix imm_probs \
-        imm_fused imm_prob rts_store rts_get rts_smooth rts_stale others";
+    let mut tally = Tally::new();
     let length = read_full(&mut rt.stdin(), list)?;
-    replay(&rt, &list[0..length], names, &mut tally)?;
-    tally::report(&rt, names, &tally)
+    replay(&rt, &list[..length], &mut tally)?;
+    tally.report(&rt)
 }
 
 // Lends the array as a slice; behind a reference its length asks no proof.

@@ -1,66 +1,63 @@
 // The operations of src/core/scalar.rs, as replay_matrices has those of matrices.
-ghost use Rattle.std.specs.Prelude.{◌≤◌};
+
+ghost use Rattle.std.specs.Prelude.{◌<◌, IfSome};
+ghost use Rattle.protocol.specs.Left.{left};
 
 use estimators::numbers;
-use protocol::words::{number_at, whole_at};
-use protocol::{given, names};
+use protocol::given::{Answer, outcome};
+use protocol::names::Scalar;
+use protocol::values::Values;
+
+const SIGN: u64 = 0x8000_0000_0000_0000;
 
 // The whole number of 32 bits with that magnitude and sign bit; 0 for one outside.
 fn int_of(bits: u64) -> i32 {
-    if bits < 0x8000_0000 {
-        return bits as i32;
-    }
-    if 0x8000_0000_0000_0000 < bits {
-        let below = bits - 0x8000_0000_0000_0001;
-        if below < 0x8000_0000 {
-            return !(below as i32);
-        }
-    }
-    0
+    let magnitude = (bits % SIGN) as i64;
+    let n = if bits < SIGN { magnitude } else { -magnitude };
+    i32::try_from(n).unwrap_or(0)
 }
 
-fn consts(given: &[u8], at: usize) -> usize
-    ensures { at ≤ result }
+fn consts<'a>(given: Answer<'a>) -> Option<Answer<'a>>
+    ensures { IfSome result (λ a. left a < left given.entry) }
 {
     let mut all = [0.0; 6];
     let status = numbers::estimators_scalar_constants(&mut all);
-    let place = given::told(given, at, status, &all);
-    given::numbers(given, place, &[all[5] * 1000000.0])
+    let left = given.told(outcome(status, &all[..]))?;
+    left.numbers(&[all[5] * 1000000.0])
 }
 
-fn result(op: usize, x: f64, y: f64, z: f64, int: i32) -> f64 {
-    match op {
-        names::SQRT => numbers::estimators_scalar_sqrt(x),
-        names::ABS => numbers::estimators_scalar_abs(x),
-        names::CLAMP_VAL => numbers::estimators_scalar_clamp_val(x, y, z),
-        names::SATURATE => numbers::estimators_scalar_saturate(x, y),
-        names::FROM_F64 => numbers::estimators_scalar_from_f64(x),
-        names::TO_F64 => numbers::estimators_scalar_to_f64(x),
-        names::FROM_INT => numbers::estimators_scalar_from_int(int),
-        names::PID_ABS => numbers::estimators_scalar_pid_abs(x),
-        _ => numbers::estimators_scalar_clamp_pid(x, y, z),
+fn result(op: Scalar, mut words: Values<'_>) -> Option<f64> {
+    if op == Scalar::FromInt {
+        let n = int_of(words.whole()?);
+        return if words.is_end() {
+            Some(numbers::estimators_scalar_from_int(n))
+        } else {
+            None
+        };
+    }
+    match (op, words.numbers()) {
+        (Scalar::Sqrt, [x]) => Some(numbers::estimators_scalar_sqrt(*x)),
+        (Scalar::Abs, [x]) => Some(numbers::estimators_scalar_abs(*x)),
+        (Scalar::ClampVal, [x, min, max]) => {
+            Some(numbers::estimators_scalar_clamp_val(*x, *min, *max))
+        }
+        (Scalar::Saturate, [x, limit]) => Some(numbers::estimators_scalar_saturate(*x, *limit)),
+        (Scalar::FromF64, [x]) => Some(numbers::estimators_scalar_from_f64(*x)),
+        (Scalar::ToF64, [x]) => Some(numbers::estimators_scalar_to_f64(*x)),
+        (Scalar::PidAbs, [x]) => Some(numbers::estimators_scalar_pid_abs(*x)),
+        (Scalar::ClampPid, [x, min, max]) => {
+            Some(numbers::estimators_scalar_clamp_pid(*x, *min, *max))
+        }
+        _ => None,
     }
 }
 
-fn count_of(op: usize) -> usize {
-    match op {
-        names::CONSTS => 0,
-        names::CLAMP_VAL | names::CLAMP_PID => 3,
-        names::SATURATE => 2,
-        _ => 1,
-    }
-}
-
-pub fn place_of(op: usize, v: &[f64], given: &[u8], at: usize) -> usize
-    ensures { at ≤ result }
+pub fn answer<'a>(op: Scalar, words: Values<'_>, given: Answer<'a>) -> Option<Answer<'a>>
+    ensures { IfSome result (λ a. left a < left given.entry) }
 {
-    if v.len() != count_of(op) {
-        return given::LOST;
+    if op == Scalar::Consts {
+        return if words.is_end() { consts(given) } else { None };
     }
-    if op == names::CONSTS {
-        return consts(given, at);
-    }
-    let int = int_of(whole_at(v, 0));
-    let x = [result(op, number_at(v, 0), number_at(v, 1), number_at(v, 2), int)];
-    given::told(given, at, 0, &x)
+    let x = result(op, words)?;
+    given.told(Ok(&[x]))
 }

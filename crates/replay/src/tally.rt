@@ -1,52 +1,66 @@
-// How many calls of each operation there were, and how many of them agreed, as the upper and the lower half of one number, in
-// the order of a list of names that spaces separate.
-use protocol::names::OTHERS;
-use protocol::words::piece;
+// How many calls of each operation there were, and how many of them agreed.
+ghost use Rattle.std.specs.Prelude.{◌≡◌, replicate};
+
+use protocol::names::{COUNT, OPS};
 use std::io;
 
-const CALL: u64 = 0x1_0000_0000;
+#[derive(Clone, Copy)]
+struct Row {
+    calls: u64,
+    agreed: u64,
+}
 
-// The place of a name in the list, or else of the list's last.
-pub fn index_of(names: &[u8], name: &[u8]) -> usize {
-    let mut at = 0;
-    let mut k = 0;
-    while at < names.len() {
-        let known = piece(names, at, b' ');
-        if known == name {
-            return k;
+const NONE: Row = Row {
+    calls: 0,
+    agreed: 0,
+};
+
+// A row for each operation of the list, and one for all other names.
+#[derive(Drop)]
+pub struct Tally {
+    rows: [Row; COUNT],
+    others: Row,
+}
+
+impl Row {
+    fn with(self, is_good: bool) -> Row {
+        Row {
+            calls: self.calls.wrapping_add(1),
+            agreed: self.agreed.wrapping_add(is_good as u64),
         }
-        k += 1;
-        at = at + known.len() + 1;
     }
-    OTHERS
-}
 
-// One more call of operation k.
-pub fn add(tally: &mut [u64], k: usize, is_good: bool) {
-    if k < tally.len() {
-        let sum = tally[k].wrapping_add(CALL);
-        tally[k] = sum.wrapping_add(is_good as u64);
+    fn print(self, rt: &impl Print, name: &str) -> io::Result<()> {
+        let Row { calls, agreed } = self;
+        println!(rt; "{name} {agreed} of {calls} agree")
     }
 }
 
-fn print_row(rt: &impl Print, name: &[u8], calls: u64) -> io::Result<()> {
-    let agreed = calls % CALL;
-    let all = calls / CALL;
-    rt.write_all(name)?;
-    println!(rt; " {agreed} of {all} agree")
-}
-
-// A row for each name.
-pub fn report(rt: &impl Print, names: &[u8], tally: &[u64]) -> io::Result<()> {
-    let mut at = 0;
-    let mut k = 0;
-    while at < names.len() {
-        let name = piece(names, at, b' ');
-        if k < tally.len() {
-            print_row(rt, name, tally[k])?;
+impl Tally {
+    pub fn new() -> Tally
+        ensures rows { result.rows ≡ replicate 65 result.others }
+        ensures others { (result.others.calls ≡ 0) × (result.others.agreed ≡ 0) }
+    {
+        Tally {
+            rows: [NONE; COUNT],
+            others: NONE,
         }
-        k += 1;
-        at = at + name.len() + 1;
     }
-    Ok(())
+
+    // One more call of the operation at that place in the list, or of another name.
+    pub fn add(&mut self, place: Option<usize>, is_good: bool) {
+        match place {
+            Some(k) => if k < COUNT {
+                self.rows[k] = self.rows[k].with(is_good);
+            },
+            None => self.others = self.others.with(is_good),
+        }
+    }
+
+    pub fn report(&self, rt: &impl Print) -> io::Result<()> {
+        for ((name, _), row) in OPS.iter().zip(self.rows.iter()) {
+            row.print(rt, name)?;
+        }
+        self.others.print(rt, "others")
+    }
 }

@@ -1,133 +1,92 @@
-// The operations on a filter replayed through their C functions. The words of a filter, a b h q r x p, lie as its slice does (an
-// information filter's omega and xi the other way round); steps follow them. The answer is sought in the answer given from the
-// place `at` on, and the place behind it handed back.
+// The calls of src/estimator/kalman.rs through their C functions. The words of a filter, a b h q r x p, lie as its slice does; steps
+// follow them.
 #![tactic(auto)]
 
-ghost use Rattle.std.specs.Prelude.{◌≤◌};
+ghost use Rattle.std.specs.Prelude.{◌<◌, IfSome};
+ghost use Rattle.protocol.specs.Left.{left};
 
-use protocol::filter::{N, Sizes, parts_of, step_cells};
-use protocol::words::{C, F, P, R, S, U, part, size_at, whole_at};
-use protocol::{given, names};
+use estimators::filters;
+use protocol::filter::{self, Filter, Model, Sizes, Step};
+use protocol::given::{Answer, outcome};
+use protocol::names::Filtering;
+use protocol::values::Values;
+use protocol::words::cells;
 
-mod linear;
+pub struct Linear;
 
-// ---- by the filter's kind
+impl Filter for Linear {
+    fn noise(s: Sizes) -> usize {
+        cells(s.m, s.m)
+    }
 
-fn is_linear(op: usize) -> bool {
-    op <= names::KF_SEQ
-}
+    // Sizes alone can be refused, for which no answer has a word.
+    fn make(
+        _is_new: bool,
+        s: Sizes,
+        words: &mut Values<'_>,
+        filter: &mut [f64],
+    ) -> Option<Result<(), u8>> {
+        let k = Model::read(s, Self::noise(s), words)?;
+        let x = words.take(s.state())?;
+        let p = words.take(s.square())?;
+        let status = filters::estimators_kalman_new(
+            s.n, s.m, s.i, k.a, k.b, k.h, k.q, k.r, x, p, filter,
+        );
+        if status == 0 { Some(Ok(())) } else { None }
+    }
 
-fn begin(op: usize, s: Sizes, w: &[f64], filter: &mut [f64], at: usize) -> usize
-    ensures { at ≤ result }
-{
-    if is_linear(op) {
-        linear::begin(s, w, filter, at)
-    } else {
-        replay_information::begin(s, w, filter, at)
+    fn take<'a>(
+        step: Step<'_>,
+        s: Sizes,
+        filter: &mut [f64],
+        given: Answer<'a>,
+    ) -> Option<Answer<'a>> {
+        let mut innovation = [0.0; 16];
+        let out = &mut innovation[..step.told_cells(s)];
+        let status = match step {
+            Step::Nothing => 0,
+            Step::Predict(u) => filters::estimators_kalman_predict(s.n, s.m, s.i, filter, u),
+            Step::Update(z) => filters::estimators_kalman_update(s.n, s.m, s.i, filter, z, out),
+            Step::Reset(x, p) => filters::estimators_kalman_reset(s.n, s.m, s.i, filter, x, p),
+            Step::Covariance | Step::Fuse(_, _) | Step::State => return None,
+        };
+        given.told(outcome(status, &*out))
+    }
+
+    // Its state and its covariance.
+    fn left<'a>(s: Sizes, filter: &[f64], given: Answer<'a>) -> Option<Answer<'a>> {
+        let mut state = [0.0; 16];
+        let mut covariance = [0.0; 16];
+        let x = &mut state[..s.state()];
+        let p = &mut covariance[..s.square()];
+        let has_x = filters::estimators_kalman_state(s.n, s.m, s.i, filter, x);
+        let has_p = filters::estimators_kalman_covariance(s.n, s.m, s.i, filter, p);
+        let left = given.numbers(outcome(has_x, &*x).ok()?)?;
+        left.numbers(outcome(has_p, &*p).ok()?)
     }
 }
 
-fn step(
-    op: usize,
-    letter: u64,
-    s: Sizes,
-    filter: &mut [f64],
-    w: &[f64],
-    given: &[u8],
-    at: usize,
-) -> usize
-    ensures { at ≤ result }
-{
-    if is_linear(op) {
-        linear::step(letter, s, filter, w, given, at)
-    } else {
-        replay_information::step(letter, s, filter, w, given, at)
-    }
-}
-
-// The letter of an operation's only step; that of a sequence's first is among the words.
-fn first_letter(op: usize, word: u64) -> u64 {
-    match op {
-        names::KF_NEW | names::IF_FROM_INFORMATION => N,
-        names::KF_PREDICT | names::IF_PREDICT => P,
-        names::KF_UPDATE | names::IF_UPDATE => U,
-        names::KF_RESET | names::IF_RESET => R,
-        names::IF_STATE => S,
-        names::IF_COV => C,
-        names::IF_FUSE => F,
-        _ => word,
-    }
-}
-
-fn is_sequence(op: usize) -> bool {
-    (op == names::KF_SEQ) | (op == names::IF_SEQ)
-}
-
-// ---- operations
-
-// Steps to the end of the words, from the first one's numbers on; the letter of each further one stands before its numbers.
-fn steps(
-    op: usize,
-    first: u64,
-    s: Sizes,
-    filter: &mut [f64],
-    v: &[f64],
-    from: usize,
-    given: &[u8],
-    at: usize,
-) -> usize
-    ensures { at ≤ result }
-{
-    let mut letter = first;
-    let mut next = from;
-    let mut then = at;
-    let mut place = given::LOST;
-    while next <= v.len() {
-        let end = next + step_cells(letter, s, v, next);
-        place = step(op, letter, s, filter, part(v, next, end), given, then);
-        then = given::text(given, place, given::THEN);
-        letter = whole_at(v, end);
-        next = end + 1;
-    }
-    place
-}
-
-fn on_filter(op: usize, s: Sizes, filter: &mut [f64], v: &[f64], given: &[u8], at: usize) -> usize
-    ensures { at ≤ result }
-{
-    if op == names::IF_NEW {
-        return replay_information::new(s, part(v, 3, v.len()), filter, given, at);
-    }
-    let end = 3 + filter.len();
-    let begun = begin(op, s, part(v, 3, end), filter, at);
-    let first = first_letter(op, whole_at(v, end));
-    let from = end.wrapping_add(is_sequence(op) as usize);
-    steps(op, first, s, filter, v, from, given, begun)
-}
-
-fn in_room(op: usize, v: &[f64], given: &[u8], at: usize) -> usize
-    ensures { at ≤ result }
+// The room stands here, beside the must-fail edit that makes it smaller; the rest is one function for all kinds of filters.
+pub fn answer<'a>(op: Filtering, mut words: Values<'_>, given: Answer<'a>) -> Option<Answer<'a>>
+    ensures { IfSome result (λ a. left a < left given.entry) }
 {
     let mut filter = [0.0; 112];
-    let s = Sizes {
-        n: size_at(v, 0),
-        m: size_at(v, 1),
-        i: size_at(v, 2),
-    };
-    let parts = parts_of(s);
-    let length = parts.6;
-    on_filter(op, s, &mut filter[0..length], v, given, at)
+    let s = Sizes::read(&mut words)?;
+    filter::replay::<Linear>(op, s, &mut words, &mut filter[..Linear::length(s)], given)
 }
 
-pub fn place_of(op: usize, v: &[f64], given: &[u8], at: usize) -> usize
-    ensures { at ≤ result }
+// The tracker of position and speed: its model, thirteen numbers, and what it leaves.
+pub fn position_velocity<'a>(mut words: Values<'_>, given: Answer<'a>) -> Option<Answer<'a>>
+    ensures { IfSome result (λ a. left a < left given.entry) }
 {
-    if op != names::KF_POSVEL {
-        return in_room(op, v, given, at);
+    let mut filter = [0.0; 19];
+    let dt = words.number()?;
+    let q = words.number()?;
+    let r = words.number()?;
+    if !words.is_end() {
+        return None;
     }
-    if v.len() == 3 {
-        linear::position_velocity(v, given, at)
-    } else {
-        given::LOST
-    }
+    let status = filters::estimators_kalman_position_velocity(dt, q, r, &mut filter);
+    let told = given.told(outcome(status, &filter[..13]))?;
+    Linear::left(Sizes { n: 2, m: 1, i: 1 }, &filter, told.text(b"|")?)
 }

@@ -1,14 +1,17 @@
 // The operations of src/estimator/imm.rs replayed through their C functions. The words of a bank lie as its slice does; those of
-// imm_new lack the probabilities. The answer is sought in the answer given from the place `at` on, and the place behind it
-// handed back.
+// imm_new lack the probabilities.
 #![tactic(auto)]
 
-ghost use Rattle.std.specs.Prelude.{◌≤◌};
+ghost use Rattle.std.specs.Prelude.{◌<◌, ◌≤◌, IfSome};
+ghost use Rattle.protocol.specs.Left.{left};
 
 use estimators::imm;
-use protocol::words::{cells, number_at, part, size_at};
-use protocol::{given, names};
+use protocol::given::{Answer, outcome};
+use protocol::names::Mixing;
+use protocol::values::Values;
+use protocol::words::cells;
 
+// States, measurements and models.
 #[derive(Clone, Copy)]
 struct Sizes {
     n: usize,
@@ -16,147 +19,126 @@ struct Sizes {
     k: usize,
 }
 
-// Where the transition, c, r and the probabilities begin in a bank, and where it ends.
-#[derive(Clone, Copy)]
-struct Parts(usize, usize, usize, usize, usize);
-
-// The numbers of that many models; 0 for more than 4.
-fn models(n: usize, count: usize) -> usize
-    ensures { result ≤ 260 }
-{
-    let square = cells(n, n);
-    let one = square + square + square + cells(n, 1) + 1;
-    match count {
-        1 => one,
-        2 => one + one,
-        3 => one + one + one,
-        4 => one + one + one + one,
-        _ => 0,
+impl Sizes {
+    fn read(words: &mut Values<'_>) -> Option<Sizes> {
+        let n = words.size()?;
+        let m = words.size()?;
+        let k = words.size()?;
+        Some(Sizes { n, m, k })
     }
-}
 
-fn parts_of(s: Sizes) -> Parts
-    ensures { result.4 ≤ 324 }
-{
-    let transition = models(s.n, s.k);
-    let c = transition + cells(s.k, s.k);
-    let r = c + cells(s.m, s.n);
-    let mu = r + cells(s.m, s.m);
-    Parts(transition, c, r, mu, mu + cells(s.k, 1))
-}
+    // The numbers of a model: a, x, p, q and a likelihood.
+    fn model(self) -> usize
+        ensures { (0 < result) × (result ≤ 65) }
+    {
+        let square = cells(self.n, self.n);
+        square + cells(self.n, 1) + square + square + 1
+    }
 
-// The words w into the bank; a NaN for each that is missing.
-fn copy(bank: &mut [f64], w: &[f64]) {
-    let mut i = 0;
-    while i < bank.len() {
-        bank[i] = number_at(w, i);
-        i += 1;
+    // The numbers of all models; 0 for more than 4.
+    fn models(self) -> usize
+        ensures { result ≤ 260 }
+    {
+        if self.k <= 4 {
+            self.model() * self.k
+        } else {
+            0
+        }
+    }
+
+    // The numbers of a bank: the models, the transition, c, r and the probabilities.
+    fn bank(self) -> usize
+        ensures { result ≤ 324 }
+    {
+        let matrices = cells(self.k, self.k) + cells(self.m, self.n) + cells(self.m, self.m);
+        self.models() + matrices + cells(self.k, 1)
     }
 }
 
 // ---- what a bank leaves: its probabilities, and each model's state, covariance and likelihood
 
-fn model_left(s: Sizes, bank: &[f64], i: usize, given: &[u8], at: usize) -> usize
-    ensures { at ≤ result }
+fn model_left<'a>(s: Sizes, model: &[f64], given: Answer<'a>) -> Option<Answer<'a>>
+    ensures { IfSome result (λ a. left a ≤ left given.entry) }
 {
-    if s.k <= i {
-        return at;
-    }
     let square = cells(s.n, s.n);
-    let x = models(s.n, i) + square;
-    let q = x + cells(s.n, 1) + square;
-    let likelihood = q + square;
-    let place = given::numbers(given, at, part(bank, x, q));
-    given::numbers(given, place, part(bank, likelihood, likelihood + 1))
+    let mut parts = Values::new(model);
+    parts.take(square)?;
+    let estimate = parts.take(cells(s.n, 1) + square)?;
+    parts.take(square)?;
+    given.numbers(estimate)?.numbers(parts.numbers())
 }
 
-fn left(s: Sizes, bank: &[f64], given: &[u8], at: usize) -> usize
-    ensures { at ≤ result }
+fn left<'a>(s: Sizes, bank: &[f64], given: Answer<'a>) -> Option<Answer<'a>>
+    ensures { IfSome result (λ a. left a ≤ left given.entry) }
 {
-    let Parts(transition, c, r, mu, end) = parts_of(s);
-    let bar = given::text(given, at, given::BAR);
-    let from = given::numbers(given, bar, part(bank, mu, end));
-    let first = model_left(s, bank, 0, given, from);
-    let second = model_left(s, bank, 1, given, first);
-    let third = model_left(s, bank, 2, given, second);
-    model_left(s, bank, 3, given, third)
-}
-
-// ---- operations on the bank of the words w
-
-fn make(s: Sizes, w: &[f64], bank: &mut [f64]) -> u8 {
-    let Parts(transition, c, r, mu, end) = parts_of(s);
-    imm::estimators_imm_new(
-        s.n,
-        s.m,
-        s.k,
-        part(w, 0, transition),
-        part(w, transition, c),
-        part(w, c, r),
-        part(w, r, mu),
-        bank,
-    )
-}
-
-fn stepped(op: usize, s: Sizes, w: &[f64], bank: &mut [f64]) -> u8 {
-    match op {
-        names::IMM_NEW => make(s, w, bank),
-        names::IMM_MIX => imm::estimators_imm_mix_estimates(s.n, s.m, s.k, bank),
-        _ => imm::estimators_imm_update_probabilities(s.n, s.m, s.k, bank),
+    let mut parts = Values::new(bank);
+    let models = parts.take(s.models())?;
+    parts.take(cells(s.k, s.k))?;
+    parts.take(cells(s.m, s.n))?;
+    parts.take(cells(s.m, s.m))?;
+    let mut left = given.text(b"|")?.numbers(parts.numbers())?;
+    for model in models.chunks_exact(s.model()) {
+        left = model_left(s, model, left)?;
     }
+    Some(left)
 }
 
-fn fused(s: Sizes, bank: &[f64], out: &mut [f64], given: &[u8], at: usize) -> usize
-    ensures { at ≤ result }
+// ---- operations, and what they tell
+
+// The bank of the words, and its status.
+fn make(s: Sizes, words: &mut Values<'_>, bank: &mut [f64]) -> Option<u8> {
+    let models = words.take(s.models())?;
+    let transition = words.take(cells(s.k, s.k))?;
+    let c = words.take(cells(s.m, s.n))?;
+    let r = words.take(cells(s.m, s.m))?;
+    Some(imm::estimators_imm_new(s.n, s.m, s.k, models, transition, c, r, bank))
+}
+
+fn fused<'a>(s: Sizes, bank: &[f64], given: Answer<'a>) -> Option<Answer<'a>>
+    ensures { IfSome result (λ a. left a < left given.entry) }
 {
-    let status = imm::estimators_imm_fused_estimate(s.n, s.m, s.k, bank, out);
-    given::told(given, at, status, out)
+    let mut out = [0.0; 16];
+    let state = &mut out[..cells(s.n, 1)];
+    let status = imm::estimators_imm_fused_estimate(s.n, s.m, s.k, bank, state);
+    given.told(outcome(status, &*state))
 }
 
-fn probability(s: Sizes, bank: &[f64], model: usize, given: &[u8], at: usize) -> usize
-    ensures { at ≤ result }
+fn probability<'a>(s: Sizes, bank: &[f64], model: usize, given: Answer<'a>) -> Option<Answer<'a>>
+    ensures { IfSome result (λ a. left a < left given.entry) }
 {
     let mut x = 0.0;
     let status = imm::estimators_imm_model_probability(s.n, s.m, s.k, bank, model, &mut x);
-    let one = [x];
-    given::told(given, at, status, &one[..])
+    given.told(outcome(status, &[x]))
 }
 
-fn told(op: usize, s: Sizes, v: &[f64], bank: &mut [f64], given: &[u8], at: usize) -> usize
-    ensures { at ≤ result }
+fn told<'a>(
+    op: Mixing,
+    s: Sizes,
+    words: &mut Values<'_>,
+    bank: &mut [f64],
+    given: Answer<'a>,
+) -> Option<Answer<'a>>
+    ensures { IfSome result (λ a. left a < left given.entry) }
 {
-    let end = 3 + bank.len();
-    if op == names::IMM_FUSED {
-        let mut out = [0.0; 16];
-        let length = cells(s.n, 1);
-        return fused(s, bank, &mut out[0..length], given, at);
+    if op != Mixing::New {
+        bank.copy_from_slice(words.take(bank.len())?);
     }
-    if op == names::IMM_PROB {
-        return probability(s, bank, size_at(v, end), given, at);
-    }
-    let status = stepped(op, s, part(v, 3, end), bank);
-    given::told(given, at, status, part(v, 0, 0))
+    let status = match op {
+        Mixing::New => make(s, words, bank)?,
+        Mixing::Mix => imm::estimators_imm_mix_estimates(s.n, s.m, s.k, bank),
+        Mixing::Probabilities => imm::estimators_imm_update_probabilities(s.n, s.m, s.k, bank),
+        Mixing::Fused => return fused(s, bank, given),
+        Mixing::Probability => return probability(s, bank, words.size()?, given),
+    };
+    given.told(outcome(status, &[]))
 }
 
-fn on_bank(op: usize, s: Sizes, v: &[f64], bank: &mut [f64], given: &[u8], at: usize) -> usize
-    ensures { at ≤ result }
-{
-    let end = 3 + bank.len();
-    copy(bank, part(v, 3, end));
-    let place = told(op, s, v, bank, given, at);
-    left(s, bank, given, place)
-}
-
-pub fn place_of(op: usize, v: &[f64], given: &[u8], at: usize) -> usize
-    ensures { at ≤ result }
+pub fn answer<'a>(op: Mixing, mut words: Values<'_>, given: Answer<'a>) -> Option<Answer<'a>>
+    ensures { IfSome result (λ a. left a < left given.entry) }
 {
     let mut bank = [0.0; 324];
-    let s = Sizes {
-        n: size_at(v, 0),
-        m: size_at(v, 1),
-        k: size_at(v, 2),
-    };
-    let parts = parts_of(s);
-    let length = parts.4;
-    on_bank(op, s, v, &mut bank[0..length], given, at)
+    let s = Sizes::read(&mut words)?;
+    let held = &mut bank[..s.bank()];
+    let told = told(op, s, &mut words, held, given)?;
+    left(s, held, told)
 }

@@ -1,190 +1,195 @@
 // The operations of src/core/matrix.rs replayed through their C functions. The words of a call are its sizes, the cells of a and of b,
-// and a number, as far as it takes them. Its sizes r and c are the rows and columns of a, where a vector has one column; i and j are
-// the next two. The answer is sought in the answer given from the place `at` on, and the place behind it handed back.
+// and a number, as far as it takes them.
 #![tactic(auto)]
 
-ghost use Rattle.std.specs.Prelude.{◌≤◌};
+ghost use Rattle.std.specs.Prelude.{◌<◌, ◌≤◌, IfSome};
+ghost use Rattle.protocol.specs.Left.{left};
 
 use estimators::matrices;
-use protocol::words::{cells, least, number_at, part, size_at};
-use protocol::{given, names};
+use protocol::given::{Answer, outcome};
+use protocol::names::{Made, Matrix, Number, OfOne, OfTwo};
+use protocol::values::Values;
+use protocol::words::cells;
 
-// The kinds of functions: a matrix of no, of one or of two slices; a number; a bool.
-const MADE: u8 = 0;
-
-const OF_ONE: u8 = 1;
-
-const OF_TWO: u8 = 2;
-
-const NUMBER: u8 = 3;
-
-const TEST: u8 = 4;
-
+// The rows and columns of a, where a vector has one column, and the next two sizes; 0 and no cells for what a call doesn't take.
 #[derive(Clone, Copy)]
-struct Call {
-    op: usize,
+struct Call<'a> {
     r: usize,
     c: usize,
     i: usize,
     j: usize,
+    a: &'a [f64],
+    b: &'a [f64],
     x: f64,
 }
 
-// The kind; how many words are sizes, cells of a, cells of b, and a number; how many numbers the result has.
-#[derive(Clone, Copy)]
-struct Shape(u8, usize, usize, usize, usize, usize);
-
-fn columns(op: usize, r: usize, second: usize) -> usize {
+// How many columns a has, where that is no word.
+fn columns(op: Matrix, r: usize) -> Option<usize> {
     match op {
-        names::IDENTITY | names::TRACE | names::INV | names::CHOLESKY => r,
-        names::VEC_ADD | names::VEC_SUB | names::VEC_DOT | names::VEC_SCALE | names::VEC_NORM => 1,
-        _ => second,
+        Matrix::Made(Made::Identity)
+        | Matrix::OfOne(OfOne::Inv | OfOne::Cholesky)
+        | Matrix::Number(Number::Trace) => Some(r),
+        Matrix::OfOne(OfOne::VecScale)
+        | Matrix::OfTwo(OfTwo::VecAdd | OfTwo::VecSub)
+        | Matrix::Number(Number::VecDot | Number::VecNorm) => Some(1),
+        _ => None,
     }
 }
 
-fn shape_of(op: usize, r: usize, c: usize, i: usize) -> Shape {
+// How many words are the cells of a, of b, and how many a number.
+fn numbers(op: Matrix, r: usize, c: usize, i: usize) -> (usize, usize, bool) {
     let rc = cells(r, c);
     match op {
-        names::ZEROS | names::DEFAULT => Shape(MADE, 2, 0, 0, 0, rc),
-        names::FILLED => Shape(MADE, 2, 0, 0, 1, rc),
-        names::IDENTITY => Shape(MADE, 1, 0, 0, 0, rc),
-        names::TRANSPOSE | names::NEG => Shape(OF_ONE, 2, rc, 0, 0, rc),
-        names::ADD_MAT | names::SUB_MAT => Shape(OF_TWO, 2, rc, rc, 0, rc),
-        names::EQ => Shape(TEST, 2, rc, rc, 0, 0),
-        names::SCALE => Shape(OF_ONE, 2, rc, 0, 1, rc),
-        names::FROB_NORM => Shape(NUMBER, 2, rc, 0, 0, 1),
-        names::TRACE | names::VEC_NORM => Shape(NUMBER, 1, rc, 0, 0, 1),
-        names::GET => Shape(NUMBER, 4, rc, 0, 0, 1),
-        names::SET => Shape(OF_ONE, 4, rc, 0, 1, rc),
-        names::MATMUL => Shape(OF_TWO, 3, rc, cells(c, i), 0, cells(r, i)),
-        names::MATVEC => Shape(OF_TWO, 2, rc, c, 0, r),
-        names::OUTER => Shape(OF_TWO, 2, r, c, 0, rc),
-        names::VEC_ADD | names::VEC_SUB => Shape(OF_TWO, 1, rc, rc, 0, rc),
-        names::VEC_DOT => Shape(NUMBER, 1, rc, rc, 0, 1),
-        names::VEC_SCALE => Shape(OF_ONE, 1, rc, 0, 1, rc),
-        _ => Shape(OF_ONE, 1, rc, 0, 0, rc),
+        Matrix::Made(op) => (0, 0, op == Made::Filled),
+        Matrix::OfOne(OfOne::Scale | OfOne::Set | OfOne::VecScale) => (rc, 0, true),
+        Matrix::OfOne(_) => (rc, 0, false),
+        Matrix::OfTwo(OfTwo::MatMul) => (rc, cells(c, i), false),
+        Matrix::OfTwo(OfTwo::MatVec) => (rc, cells(c, 1), false),
+        Matrix::OfTwo(OfTwo::Outer) => (cells(r, 1), cells(c, 1), false),
+        Matrix::OfTwo(_) | Matrix::Number(Number::VecDot) | Matrix::Equal => (rc, rc, false),
+        Matrix::Number(_) => (rc, 0, false),
     }
 }
 
-fn made(k: Call, out: &mut [f64]) -> u8 {
-    let op = k.op;
-    match op {
-        names::ZEROS => matrices::estimators_matrix_zeros(k.r, k.c, out),
-        names::DEFAULT => matrices::estimators_matrix_default(k.r, k.c, out),
-        names::FILLED => matrices::estimators_matrix_filled(k.r, k.c, k.x, out),
-        _ => matrices::estimators_matrix_identity(k.r, out),
+impl<'a> Call<'a> {
+    fn read(op: Matrix, words: &mut Values<'a>) -> Option<Call<'a>> {
+        let r = words.size()?;
+        let c = match columns(op, r) {
+            Some(c) => c,
+            None => words.size()?,
+        };
+        let i = match op {
+            Matrix::OfTwo(OfTwo::MatMul)
+            | Matrix::OfOne(OfOne::Set)
+            | Matrix::Number(Number::Get) => { words.size()? }
+            _ => 0,
+        };
+        let j = match op {
+            Matrix::OfOne(OfOne::Set) | Matrix::Number(Number::Get) => words.size()?,
+            _ => 0,
+        };
+        let (of_a, of_b, has_x) = numbers(op, r, c, i);
+        let a = words.take(of_a)?;
+        let b = words.take(of_b)?;
+        let x = if has_x { words.number()? } else { 0.0 };
+        Some(Call {
+            r,
+            c,
+            i,
+            j,
+            a,
+            b,
+            x,
+        })
     }
-}
 
-fn of_one(k: Call, a: &[f64], out: &mut [f64]) -> u8 {
-    let op = k.op;
-    match op {
-        names::TRANSPOSE => matrices::estimators_matrix_transpose(k.r, k.c, a, out),
-        names::SCALE => matrices::estimators_matrix_scale(k.r, k.c, a, k.x, out),
-        names::NEG => matrices::estimators_matrix_neg(k.r, k.c, a, out),
-        names::SET => matrices::estimators_matrix_set(k.r, k.c, k.i, k.j, a, k.x, out),
-        names::VEC_SCALE => matrices::estimators_matrix_vec_scale(k.r, a, k.x, out),
-        names::INV => matrices::estimators_matrix_inv(k.r, a, out),
-        _ => matrices::estimators_matrix_cholesky(k.r, a, out),
+    // How many numbers the result has.
+    fn result(self, op: Matrix) -> usize
+        ensures { result ≤ 16 }
+    {
+        match op {
+            Matrix::OfTwo(OfTwo::MatMul) => cells(self.r, self.i),
+            Matrix::OfTwo(OfTwo::MatVec) => cells(self.r, 1),
+            _ => cells(self.r, self.c),
+        }
     }
-}
 
-fn of_two(k: Call, a: &[f64], b: &[f64], out: &mut [f64]) -> u8 {
-    let op = k.op;
-    match op {
-        names::ADD_MAT => matrices::estimators_matrix_add_mat(k.r, k.c, a, b, out),
-        names::SUB_MAT => matrices::estimators_matrix_sub_mat(k.r, k.c, a, b, out),
-        names::MATMUL => matrices::estimators_matrix_matmul(k.r, k.c, k.i, a, b, out),
-        names::MATVEC => matrices::estimators_matrix_matvec(k.r, k.c, a, b, out),
-        names::OUTER => matrices::estimators_matrix_outer(k.r, k.c, a, b, out),
-        names::VEC_ADD => matrices::estimators_matrix_vec_add(k.r, a, b, out),
-        _ => matrices::estimators_matrix_vec_sub(k.r, a, b, out),
+    fn made(self, op: Made, out: &mut [f64]) -> u8 {
+        match op {
+            Made::Zeros => matrices::estimators_matrix_zeros(self.r, self.c, out),
+            Made::Default => matrices::estimators_matrix_default(self.r, self.c, out),
+            Made::Filled => matrices::estimators_matrix_filled(self.r, self.c, self.x, out),
+            Made::Identity => matrices::estimators_matrix_identity(self.r, out),
+        }
     }
-}
 
-fn number_of(k: Call, a: &[f64], b: &[f64], out: &mut f64) -> u8 {
-    let op = k.op;
-    match op {
-        names::FROB_NORM => matrices::estimators_matrix_frob_norm(k.r, k.c, a, out),
-        names::TRACE => matrices::estimators_matrix_trace(k.r, a, out),
-        names::GET => matrices::estimators_matrix_get(k.r, k.c, k.i, k.j, a, out),
-        names::VEC_DOT => matrices::estimators_matrix_vec_dot(k.r, a, b, out),
-        _ => matrices::estimators_matrix_vec_norm(k.r, a, out),
+    fn of_one(self, op: OfOne, out: &mut [f64]) -> u8 {
+        let Call {
+            r,
+            c,
+            i,
+            j,
+            a,
+            x,
+            ..
+        } = self;
+        match op {
+            OfOne::Transpose => matrices::estimators_matrix_transpose(r, c, a, out),
+            OfOne::Scale => matrices::estimators_matrix_scale(r, c, a, x, out),
+            OfOne::Neg => matrices::estimators_matrix_neg(r, c, a, out),
+            OfOne::Set => matrices::estimators_matrix_set(r, c, i, j, a, x, out),
+            OfOne::VecScale => matrices::estimators_matrix_vec_scale(r, a, x, out),
+            OfOne::Inv => matrices::estimators_matrix_inv(r, a, out),
+            OfOne::Cholesky => matrices::estimators_matrix_cholesky(r, a, out),
+        }
     }
-}
 
-fn matrix_of(kind: u8, k: Call, a: &[f64], b: &[f64], out: &mut [f64]) -> u8 {
-    match kind {
-        MADE => made(k, out),
-        OF_ONE => of_one(k, a, out),
-        _ => of_two(k, a, b, out),
+    fn of_two(self, op: OfTwo, out: &mut [f64]) -> u8 {
+        let Call { r, c, i, a, b, .. } = self;
+        match op {
+            OfTwo::Add => matrices::estimators_matrix_add_mat(r, c, a, b, out),
+            OfTwo::Sub => matrices::estimators_matrix_sub_mat(r, c, a, b, out),
+            OfTwo::MatMul => matrices::estimators_matrix_matmul(r, c, i, a, b, out),
+            OfTwo::MatVec => matrices::estimators_matrix_matvec(r, c, a, b, out),
+            OfTwo::Outer => matrices::estimators_matrix_outer(r, c, a, b, out),
+            OfTwo::VecAdd => matrices::estimators_matrix_vec_add(r, a, b, out),
+            OfTwo::VecSub => matrices::estimators_matrix_vec_sub(r, a, b, out),
+        }
+    }
+
+    fn number(self, op: Number, out: &mut f64) -> u8 {
+        let Call {
+            r,
+            c,
+            i,
+            j,
+            a,
+            b,
+            ..
+        } = self;
+        match op {
+            Number::FrobNorm => matrices::estimators_matrix_frob_norm(r, c, a, out),
+            Number::Trace => matrices::estimators_matrix_trace(r, a, out),
+            Number::Get => matrices::estimators_matrix_get(r, c, i, j, a, out),
+            Number::VecDot => matrices::estimators_matrix_vec_dot(r, a, b, out),
+            Number::VecNorm => matrices::estimators_matrix_vec_norm(r, a, out),
+        }
     }
 }
 
 // ---- answers
 
-fn test(k: Call, a: &[f64], b: &[f64], given: &[u8], at: usize) -> usize
-    ensures { at ≤ result }
+fn told_equal<'a>(k: Call<'_>, given: Answer<'a>) -> Option<Answer<'a>>
+    ensures { IfSome result (λ a. left a < left given.entry) }
 {
     let mut is_equal = false;
-    let status = matrices::estimators_matrix_eq(k.r, k.c, a, b, &mut is_equal);
-    given::count(
-        given,
-        given::told(given, at, status, part(a, 0, 0)),
-        is_equal as u64,
-    )
+    let status = matrices::estimators_matrix_eq(k.r, k.c, k.a, k.b, &mut is_equal);
+    given.told(outcome(status, &[]))?.count(is_equal as u64)
 }
 
-fn number(k: Call, a: &[f64], b: &[f64], given: &[u8], at: usize) -> usize
-    ensures { at ≤ result }
+fn told_number<'a>(op: Number, k: Call<'_>, given: Answer<'a>) -> Option<Answer<'a>>
+    ensures { IfSome result (λ a. left a < left given.entry) }
 {
     let mut x = 0.0;
-    let status = number_of(k, a, b, &mut x);
-    given::told(given, at, status, &[x])
+    let status = k.number(op, &mut x);
+    given.told(outcome(status, &[x]))
 }
 
-fn matrix(
-    kind: u8,
-    k: Call,
-    a: &[f64],
-    b: &[f64],
-    out: &mut [f64],
-    given: &[u8],
-    at: usize,
-) -> usize
-    ensures { at ≤ result }
+pub fn answer<'a>(op: Matrix, mut words: Values<'_>, given: Answer<'a>) -> Option<Answer<'a>>
+    ensures { IfSome result (λ a. left a < left given.entry) }
 {
-    let status = matrix_of(kind, k, a, b, out);
-    given::told(given, at, status, out)
-}
-
-fn answer(kind: u8, k: Call, a: &[f64], b: &[f64], length: usize, given: &[u8], at: usize) -> usize
-    ensures { at ≤ result }
-{
+    let k = Call::read(op, &mut words)?;
+    if !words.is_end() {
+        return None;
+    }
     let mut out = [0.0; 16];
-    let n = least(length, 16);
-    match kind {
-        TEST => test(k, a, b, given, at),
-        NUMBER => number(k, a, b, given, at),
-        _ => matrix(kind, k, a, b, &mut out[0..n], given, at),
-    }
-}
-
-pub fn place_of(op: usize, v: &[f64], given: &[u8], at: usize) -> usize
-    ensures { at ≤ result }
-{
-    let r = size_at(v, 0);
-    let c = columns(op, r, size_at(v, 1));
-    let i = size_at(v, 2);
-    let j = size_at(v, 3);
-    let s = shape_of(op, r, c, i);
-    let b = s.1.wrapping_add(s.2);
-    let end = b.wrapping_add(s.3);
-    let x = number_at(v, end);
-    if end.wrapping_add(s.4) == v.len() {
-        let k = Call { op, r, c, i, j, x };
-        answer(s.0, k, part(v, s.1, b), part(v, b, end), s.5, given, at)
-    } else {
-        given::LOST
-    }
+    let matrix = &mut out[..k.result(op)];
+    let status = match op {
+        Matrix::Made(op) => k.made(op, matrix),
+        Matrix::OfOne(op) => k.of_one(op, matrix),
+        Matrix::OfTwo(op) => k.of_two(op, matrix),
+        Matrix::Number(op) => return told_number(op, k, given),
+        Matrix::Equal => return told_equal(k, given),
+    };
+    given.told(outcome(status, &*matrix))
 }

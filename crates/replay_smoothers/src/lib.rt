@@ -1,42 +1,15 @@
 // The operations of src/estimator/rts_smoother.rs replayed through their C functions. A slot is two pairs of a state and a covariance:
-// filtered and predicted. The answer is sought in the answer given from the place `at` on, and the place behind it handed back.
+// filtered and predicted.
 #![tactic(auto)]
 
-ghost use Rattle.std.specs.Prelude.{◌≤◌};
+ghost use Rattle.std.specs.Prelude.{◌<◌, ◌≤◌, IfSome};
+ghost use Rattle.protocol.specs.Left.{left};
 
 use estimators::smoothers;
-use protocol::words::{cells, count_at, part, size_at};
-use protocol::{given, names};
-
-// A smoother of n states with room for that many slots.
-#[derive(Clone, Copy)]
-struct Sizes {
-    n: usize,
-    room: usize,
-}
-
-// Where the words of the transition and of the slots begin; how many slots are stored and dropped, and how many stored then;
-// how many pairs are answered.
-#[derive(Clone, Copy)]
-struct Duty(usize, usize, usize, usize, usize);
-
-// How many slots are stored, the word after those offered, and the place in the answer.
-#[derive(Clone, Copy)]
-struct Stored {
-    count: usize,
-    next: usize,
-    place: usize,
-}
-
-fn duty_of(op: usize, n: usize, room: usize, third: usize, fourth: usize) -> Duty {
-    let square = cells(n, n);
-    match op {
-        names::RTS_STORE => Duty(3, 3, 0, third, 0),
-        names::RTS_GET => Duty(4, 4, 0, third, 2),
-        names::RTS_SMOOTH => Duty(3, 3 + square, 0, third, room),
-        _ => Duty(4, 4 + square, third, fourth, room),
-    }
-}
+use protocol::given::{Answer, outcome};
+use protocol::names::Smoothing;
+use protocol::values::Values;
+use protocol::words::cells;
 
 // The numbers of that many pairs; 0 for more than 128.
 fn pairs(n: usize, count: usize) -> usize
@@ -54,148 +27,151 @@ fn pairs(n: usize, count: usize) -> usize
     }
 }
 
-// Stores the slots of the words, in empty room; each store's refusal, or 0, is the next word of the answer.
-fn store(
-    s: Sizes,
-    offered: usize,
-    v: &[f64],
-    from: usize,
-    slots: &mut [f64],
-    given: &[u8],
-    at: usize,
-) -> Stored
-    ensures { at ≤ result.place }
-{
-    let pair = pairs(s.n, 1);
-    let mut count = 0;
-    let mut next = from;
-    let mut place = at;
-    let mut k = 0;
-    while k < offered {
-        let middle = next.wrapping_add(pair);
-        let end = middle.wrapping_add(pair);
-        let filtered = part(v, next, middle);
-        let predicted = part(v, middle, end);
-        let status = smoothers::estimators_rts_smoother_store_forward(
-            s.n, s.room, &mut count, slots, filtered, predicted,
+// A smoother of n states with room for that many slots, of which `count` are stored.
+#[derive(Drop)]
+struct Smoother<'a> {
+    n: usize,
+    room: usize,
+    count: usize,
+    slots: &'a mut [f64],
+}
+
+impl Smoother<'_> {
+    // Stores the slot of the next words; its status.
+    fn store(&mut self, words: &mut Values<'_>) -> Option<u8> {
+        let filtered = words.take(pairs(self.n, 1))?;
+        let predicted = words.take(pairs(self.n, 1))?;
+        Some(smoothers::estimators_rts_smoother_store_forward(
+            self.n,
+            self.room,
+            &mut self.count,
+            &mut *self.slots,
+            filtered,
+            predicted,
+        ))
+    }
+
+    fn store_all(&mut self, offered: usize, words: &mut Values<'_>) -> Option<()> {
+        for _ in 0..offered {
+            self.store(words)?;
+        }
+        Some(())
+    }
+
+    // Each store's refusal, or 0; then how many slots there are, whether there is none, and the slots.
+    fn listed<'a>(
+        &mut self,
+        offered: usize,
+        words: &mut Values<'_>,
+        given: Answer<'a>,
+    ) -> Option<Answer<'a>>
+        ensures { IfSome result (λ a. left a < left given.entry) }
+    {
+        let mut left = given.text(b"ok")?;
+        for _ in 0..offered {
+            let status = self.store(words)?;
+            left = left.count(status as u64)?;
+        }
+        let counted = left.text(b"|")?.count(self.count as u64)?;
+        let listed = counted.count((self.count == 0) as u64)?;
+        let end = pairs(self.n, self.count.wrapping_add(self.count)).min(self.slots.len());
+        listed.numbers(&self.slots[..end])
+    }
+
+    // Slot k, in as many numbers as two pairs.
+    fn slot<'a>(&self, k: usize, out: &mut [f64], given: Answer<'a>) -> Option<Answer<'a>>
+        ensures { IfSome result (λ a. left a < left given.entry) }
+    {
+        let status = smoothers::estimators_rts_smoother_get_state(
+            self.n,
+            self.room,
+            self.count,
+            &*self.slots,
+            k,
+            out,
         );
-        place = given::count(given, place, status as u64);
-        next = end;
-        k += 1;
+        given.told(outcome(status, &*out))
     }
-    Stored { count, next, place }
-}
 
-// ---- answers, from the count and the slots stored
-
-// How many slots there are, whether there is none, and the slots.
-fn listed(n: usize, count: usize, slots: &[f64], given: &[u8], at: usize) -> usize
-    ensures { at ≤ result }
-{
-    let bar = given::text(given, at, given::BAR);
-    let place = given::count(given, bar, count as u64);
-    let next = given::count(given, place, (count == 0) as u64);
-    let end = pairs(n, count.wrapping_add(count));
-    given::numbers(given, next, part(slots, 0, end))
-}
-
-// How many slots were smoothed, and the pairs; or a refusal.
-fn smoothed(status: u8, count: usize, out: &[f64], given: &[u8], at: usize) -> usize
-    ensures { at ≤ result }
-{
-    let place = given::told(given, at, status, part(out, 0, 0));
-    if status != 0 {
-        return place;
-    }
-    let bar = given::text(given, given::count(given, place, count as u64), given::BAR);
-    given::numbers(given, bar, out)
-}
-
-// The words from `head` on are the transition, where there is one.
-fn answer(
-    op: usize,
-    s: Sizes,
-    kept: Stored,
-    slots: &[f64],
-    v: &[f64],
-    head: usize,
-    out: &mut [f64],
-    given: &[u8],
-    at: usize,
-) -> usize
-    requires { at ≤ kept.place }
-    ensures { at ≤ result }
-{
-    let count = kept.count;
-    let end = head.wrapping_add(cells(s.n, s.n));
-    match op {
-        names::RTS_STORE => listed(s.n, count, slots, given, kept.place),
-        names::RTS_GET => {
-            let status = smoothers::estimators_rts_smoother_get_state(
-                s.n,
-                s.room,
-                count,
-                slots,
-                size_at(v, 3),
-                out,
-            );
-            given::told(given, at, status, out)
+    // How many slots were smoothed, and the pairs; or a refusal.
+    fn smoothed<'a>(
+        &self,
+        transition: &[f64],
+        out: &mut [f64],
+        given: Answer<'a>,
+    ) -> Option<Answer<'a>>
+        ensures { IfSome result (λ a. left a < left given.entry) }
+    {
+        let status = smoothers::estimators_rts_smoother_smooth(
+            self.n,
+            self.room,
+            self.count,
+            &*self.slots,
+            transition,
+            out,
+        );
+        let told = given.told(outcome(status, &[]))?;
+        if status != 0 {
+            return Some(told);
         }
-        _ => {
-            let status = smoothers::estimators_rts_smoother_smooth(
-                s.n,
-                s.room,
-                count,
-                slots,
-                part(v, head, end),
-                out,
-            );
-            smoothed(status, count, out, given, at)
-        }
+        told.count(self.count as u64)?.text(b"|")?.numbers(out)
     }
 }
 
-// The slots to drop and those to keep stored one after the other, and the answer for the latter, with which the words end.
-fn on_slots(
-    op: usize,
-    s: Sizes,
-    d: Duty,
-    v: &[f64],
-    slots: &mut [f64],
+// The last slots of the words stored, and the answer for what is there then.
+fn on_slots<'a>(
+    op: Smoothing,
+    mut all: Smoother<'_>,
+    words: &mut Values<'_>,
     out: &mut [f64],
-    given: &[u8],
-    at: usize,
-) -> usize
-    ensures { at ≤ result }
+    given: Answer<'a>,
+) -> Option<Answer<'a>>
+    ensures { IfSome result (λ a. left a < left given.entry) }
 {
-    let dropped = store(s, d.2, v, d.1, slots, given, given::LOST);
-    let ok = given::text(given, at, given::OK);
-    let kept = store(s, d.3, v, dropped.next, slots, given, ok);
-    if kept.next == v.len() {
-        answer(op, s, kept, slots, v, d.0, out, given, at)
-    } else {
-        given::LOST
-    }
+    let offered = words.count()?;
+    let square = cells(all.n, all.n);
+    let left = match op {
+        Smoothing::Store => all.listed(offered, words, given)?,
+        Smoothing::Get => {
+            let k = words.size()?;
+            all.store_all(offered, words)?;
+            all.slot(k, out, given)?
+        }
+        Smoothing::Smooth => {
+            let transition = words.take(square)?;
+            all.store_all(offered, words)?;
+            all.smoothed(transition, out, given)?
+        }
+        Smoothing::Stale => {
+            let kept = words.count()?;
+            let transition = words.take(square)?;
+            all.store_all(offered, words)?;
+            all.count = 0;
+            all.store_all(kept, words)?;
+            all.smoothed(transition, out, given)?
+        }
+    };
+    if words.is_end() { Some(left) } else { None }
 }
 
-pub fn place_of(op: usize, v: &[f64], given: &[u8], at: usize) -> usize
-    ensures { at ≤ result }
+pub fn answer<'a>(op: Smoothing, mut words: Values<'_>, given: Answer<'a>) -> Option<Answer<'a>>
+    ensures { IfSome result (λ a. left a < left given.entry) }
 {
-    let mut slots = [0.0; 2560];
+    let mut room_of_slots = [0.0; 2560];
     let mut output = [0.0; 2560];
-    let n = size_at(v, 0);
-    let room = size_at(v, 1);
-    let d = duty_of(op, n, room, count_at(v, 2), count_at(v, 3));
-    let length = pairs(n, room.wrapping_add(room));
-    let answered = pairs(n, d.4);
-    on_slots(
-        op,
-        Sizes { n, room },
-        d,
-        v,
-        &mut slots[0..length],
-        &mut output[0..answered],
-        given,
-        at,
-    )
+    let n = words.size()?;
+    let room = words.size()?;
+    let answered = match op {
+        Smoothing::Store => 0,
+        Smoothing::Get => pairs(n, 2),
+        Smoothing::Smooth | Smoothing::Stale => pairs(n, room),
+    };
+    let slots = &mut room_of_slots[..pairs(n, room.wrapping_add(room))];
+    let all = Smoother {
+        n,
+        room,
+        count: 0,
+        slots,
+    };
+    on_slots(op, all, &mut words, &mut output[..answered], given)
 }

@@ -1,0 +1,2 @@
+-- What the contracts of the answer given say.
+pub mod Left

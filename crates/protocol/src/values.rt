@@ -1,0 +1,81 @@
+// What is left of the values of a call, from which each method takes the next.
+ghost use Rattle.std.specs.Prelude.{◌≡◌, ◌↔◌, ◌≤◌, IsTrue, length, drop, IfSome, slice_get};
+ghost use Rattle.std.specs.Option.{option_map};
+ghost use Rattle.std.specs.Float.{binary64};
+ghost use Rattle.std.specs.Float.Ieee.{to_bits};
+
+use crate::filter::Letter;
+use crate::words::to_bits;
+
+#[derive(Clone, Copy)]
+pub struct Values<'a> {
+    rest: &'a [f64],
+}
+
+impl<'a> Values<'a> {
+    pub fn new(all: &'a [f64]) -> Values<'a>
+        ensures { result.rest ≡ all.entry }
+    {
+        Values { rest: all }
+    }
+
+    pub fn number(&mut self) -> Option<f64>
+        ensures value { result ≡ slice_get self.old.rest.now 0 }
+        ensures rest { self.new.rest.now ≡ drop 1 self.old.rest.now }
+    {
+        let (first, rest) = self.rest.split_first()?;
+        self.rest = rest;
+        Some(*first)
+    }
+
+    pub fn whole(&mut self) -> Option<u64>
+        ensures value { result ≡ option_map (to_bits binary64) (slice_get self.old.rest.now 0) }
+        ensures rest { self.new.rest.now ≡ drop 1 self.old.rest.now }
+    {
+        Some(to_bits(self.number()?))
+    }
+
+    pub fn size(&mut self) -> Option<usize>
+        ensures value { result ≡ option_map (to_bits binary64) (slice_get self.old.rest.now 0) }
+        ensures rest { self.new.rest.now ≡ drop 1 self.old.rest.now }
+    {
+        Some(self.whole()? as usize)
+    }
+
+    // A count; all that is above 999 is 999.
+    pub fn count(&mut self) -> Option<usize>
+        ensures value { IfSome result (λ n. n ≤ 999) }
+        ensures rest { self.new.rest.now ≡ drop 1 self.old.rest.now }
+    {
+        Some(self.size()?.min(999))
+    }
+
+    pub fn take(&mut self, n: usize) -> Option<&'a [f64]>
+        ensures value { IfSome result (λ part. length part.now ≡ n) }
+        ensures rest { length self.new.rest.now ≤ length self.old.rest.now }
+    {
+        let (part, rest) = self.rest.split_at_checked(n)?;
+        self.rest = rest;
+        Some(part)
+    }
+
+    pub fn letter(&mut self) -> Option<Letter>
+        ensures { self.new.rest.now ≡ drop 1 self.old.rest.now }
+    {
+        let byte = u8::try_from(self.whole()?).ok()?;
+        Letter::try_from(byte).ok()
+    }
+
+    // All that is left.
+    pub fn numbers(self) -> &'a [f64]
+        ensures { result ≡ self.entry.rest }
+    {
+        self.rest
+    }
+
+    pub fn is_end(&self) -> bool
+        ensures { IsTrue result ↔ (length self.now.rest.now ≡ 0) }
+    {
+        self.rest.is_empty()
+    }
+}
