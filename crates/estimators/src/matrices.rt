@@ -1,174 +1,21 @@
-// The names for C of src/core/matrix.rs: each forwards to its call on slices, with its contract. A matrix is a slice of its cells by
+// The names for C of src/core/matrix.rs: each call on slices by its name for C. A matrix is a slice of its cells by
 // rows. Refused with 1: a size, or a slice of another length; then, as at every refusal, nothing is written.
-ghost use Rattle.std.specs.Prelude.{◌≡◌, length};
-ghost use Rattle.answer.specs.Told.{given};
-ghost use Rattle.c_slices.specs.Calls.{zeros_in, filled_in, identity_in, transpose_in, scale_in, neg_in, frob_norm_in, trace_in, inv_in, cholesky_in};
-ghost use Rattle.c_slices.specs.Calls.{get_in, set_in, add_in, sub_in, eq_in, mul_in, matvec_in, outer_in, vec_add_in, vec_sub_in, vec_scale_in, dot_in, vec_norm_in};
-
-pub fn estimators_matrix_zeros(r: usize, c: usize, out: &mut [f64]) -> u8
-    ensures { (result, out.new) ≡ given out.old (zeros_in r c (length out.old)) }
-{
-    c_matrix::cells::matrix_zeros(r, c, out)
-}
-
-pub fn estimators_matrix_default(r: usize, c: usize, out: &mut [f64]) -> u8
-    ensures { (result, out.new) ≡ given out.old (zeros_in r c (length out.old)) }
-{
-    c_matrix::cells::matrix_default(r, c, out)
-}
-
-pub fn estimators_matrix_filled(r: usize, c: usize, val: f64, out: &mut [f64]) -> u8
-    ensures { (result, out.new) ≡ given out.old (filled_in r c val (length out.old)) }
-{
-    c_matrix::cells::matrix_filled(r, c, val, out)
-}
-
-pub fn estimators_matrix_identity(n: usize, out: &mut [f64]) -> u8
-    ensures { (result, out.new) ≡ given out.old (identity_in n (length out.old)) }
-{
-    c_matrix::cells::matrix_identity(n, out)
-}
-
-// From r rows and c columns to c rows and r columns.
-pub fn estimators_matrix_transpose(r: usize, c: usize, a: &[f64], out: &mut [f64]) -> u8
-    ensures { (result, out.new) ≡ given out.old (transpose_in r c a.now (length out.old)) }
-{
-    c_matrix::matrices::matrix_transpose(r, c, a, out)
-}
-
-pub fn estimators_matrix_scale(r: usize, c: usize, a: &[f64], s: f64, out: &mut [f64]) -> u8
-    ensures { (result, out.new) ≡ given out.old (scale_in r c a.now s (length out.old)) }
-{
-    c_matrix::matrices::matrix_scale(r, c, a, s, out)
-}
-
-pub fn estimators_matrix_neg(r: usize, c: usize, a: &[f64], out: &mut [f64]) -> u8
-    ensures { (result, out.new) ≡ given out.old (neg_in r c a.now (length out.old)) }
-{
-    c_matrix::matrices::matrix_neg(r, c, a, out)
-}
-
-pub fn estimators_matrix_frob_norm(r: usize, c: usize, a: &[f64], out: &mut f64) -> u8
-    ensures { (result, out.new) ≡ given out.old (frob_norm_in r c a.now) }
-{
-    c_matrix::matrices::matrix_frob_norm(r, c, a, out)
-}
-
-pub fn estimators_matrix_trace(n: usize, a: &[f64], out: &mut f64) -> u8
-    ensures { (result, out.new) ≡ given out.old (trace_in n a.now) }
-{
-    c_matrix::matrices::matrix_trace(n, a, out)
-}
-
-// The inverse. Refused with 3: inversion rejects the matrix.
-pub fn estimators_matrix_inv(n: usize, a: &[f64], out: &mut [f64]) -> u8
-    ensures { (result, out.new) ≡ given out.old (inv_in n a.now (length out.old)) }
-{
-    c_matrix::matrices::matrix_inv(n, a, out)
-}
-
-// The lower factor. Refused with 4: a reduced diagonal at or below zero.
-pub fn estimators_matrix_cholesky(n: usize, a: &[f64], out: &mut [f64]) -> u8
-    ensures { (result, out.new) ≡ given out.old (cholesky_in n a.now (length out.old)) }
-{
-    c_matrix::matrices::matrix_cholesky(n, a, out)
-}
-
-// Row i, column j, from 0. Refused with 1 outside, as matrix_set.
-pub fn estimators_matrix_get(r: usize, c: usize, i: usize, j: usize, a: &[f64], out: &mut f64) -> u8
-    ensures { (result, out.new) ≡ given out.old (get_in r c i j a.now) }
-{
-    c_matrix::cells::matrix_get(r, c, i, j, a, out)
-}
-
-// The matrix with val in row i, column j.
-pub fn estimators_matrix_set(
-    r: usize,
-    c: usize,
-    i: usize,
-    j: usize,
-    a: &[f64],
-    val: f64,
-    out: &mut [f64],
-) -> u8
-    ensures { (result, out.new) ≡ given out.old (set_in r c i j a.now val (length out.old)) }
-{
-    c_matrix::cells::matrix_set(r, c, i, j, a, val, out)
-}
-
-pub fn estimators_matrix_add_mat(r: usize, c: usize, a: &[f64], b: &[f64], out: &mut [f64]) -> u8
-    ensures { (result, out.new) ≡ given out.old (add_in r c a.now b.now (length out.old)) }
-{
-    c_matrix::matrices::matrix_add_mat(r, c, a, b, out)
-}
-
-pub fn estimators_matrix_sub_mat(r: usize, c: usize, a: &[f64], b: &[f64], out: &mut [f64]) -> u8
-    ensures { (result, out.new) ≡ given out.old (sub_in r c a.now b.now (length out.old)) }
-{
-    c_matrix::matrices::matrix_sub_mat(r, c, a, b, out)
-}
-
-// Equal cell by cell: -0 equals +0, and a NaN equals nothing.
-pub fn estimators_matrix_eq(r: usize, c: usize, a: &[f64], b: &[f64], out: &mut bool) -> u8
-    ensures { (result, out.new) ≡ given out.old (eq_in r c a.now b.now) }
-{
-    c_matrix::matrices::matrix_eq(r, c, a, b, out)
-}
-
-// r rows and k columns times k rows and c columns.
-pub fn estimators_matrix_matmul(
-    r: usize,
-    k: usize,
-    c: usize,
-    a: &[f64],
-    b: &[f64],
-    out: &mut [f64],
-) -> u8
-    ensures { (result, out.new) ≡ given out.old (mul_in r k c a.now b.now (length out.old)) }
-{
-    c_matrix::matrices::matrix_matmul(r, k, c, a, b, out)
-}
-
-// r rows and c columns times a vector of c numbers.
-pub fn estimators_matrix_matvec(r: usize, c: usize, a: &[f64], v: &[f64], out: &mut [f64]) -> u8
-    ensures { (result, out.new) ≡ given out.old (matvec_in r c a.now v.now (length out.old)) }
-{
-    c_vector::matrix_matvec(r, c, a, v, out)
-}
-
-// A vector of r numbers times a transposed one of c.
-pub fn estimators_matrix_outer(r: usize, c: usize, v: &[f64], w: &[f64], out: &mut [f64]) -> u8
-    ensures { (result, out.new) ≡ given out.old (outer_in r c v.now w.now (length out.old)) }
-{
-    c_vector::matrix_outer(r, c, v, w, out)
-}
-
-pub fn estimators_matrix_vec_add(n: usize, v: &[f64], w: &[f64], out: &mut [f64]) -> u8
-    ensures { (result, out.new) ≡ given out.old (vec_add_in n v.now w.now (length out.old)) }
-{
-    c_vector::matrix_vec_add(n, v, w, out)
-}
-
-pub fn estimators_matrix_vec_sub(n: usize, v: &[f64], w: &[f64], out: &mut [f64]) -> u8
-    ensures { (result, out.new) ≡ given out.old (vec_sub_in n v.now w.now (length out.old)) }
-{
-    c_vector::matrix_vec_sub(n, v, w, out)
-}
-
-pub fn estimators_matrix_vec_scale(n: usize, v: &[f64], s: f64, out: &mut [f64]) -> u8
-    ensures { (result, out.new) ≡ given out.old (vec_scale_in n v.now s (length out.old)) }
-{
-    c_vector::matrix_vec_scale(n, v, s, out)
-}
-
-pub fn estimators_matrix_vec_dot(n: usize, v: &[f64], w: &[f64], out: &mut f64) -> u8
-    ensures { (result, out.new) ≡ given out.old (dot_in n v.now w.now) }
-{
-    c_vector::matrix_vec_dot(n, v, w, out)
-}
-
-pub fn estimators_matrix_vec_norm(n: usize, v: &[f64], out: &mut f64) -> u8
-    ensures { (result, out.new) ≡ given out.old (vec_norm_in n v.now) }
-{
-    c_vector::matrix_vec_norm(n, v, out)
-}
+pub use c_matrix::cells::{
+    matrix_default as estimators_matrix_default, matrix_filled as estimators_matrix_filled,
+    matrix_get as estimators_matrix_get, matrix_identity as estimators_matrix_identity,
+    matrix_set as estimators_matrix_set, matrix_zeros as estimators_matrix_zeros,
+};
+pub use c_matrix::matrices::{
+    matrix_add_mat as estimators_matrix_add_mat, matrix_cholesky as estimators_matrix_cholesky,
+    matrix_eq as estimators_matrix_eq, matrix_frob_norm as estimators_matrix_frob_norm,
+    matrix_inv as estimators_matrix_inv, matrix_matmul as estimators_matrix_matmul,
+    matrix_neg as estimators_matrix_neg, matrix_scale as estimators_matrix_scale,
+    matrix_sub_mat as estimators_matrix_sub_mat, matrix_trace as estimators_matrix_trace,
+    matrix_transpose as estimators_matrix_transpose,
+};
+pub use c_vector::{
+    matrix_matvec as estimators_matrix_matvec, matrix_outer as estimators_matrix_outer,
+    matrix_vec_add as estimators_matrix_vec_add, matrix_vec_dot as estimators_matrix_vec_dot,
+    matrix_vec_norm as estimators_matrix_vec_norm, matrix_vec_scale as estimators_matrix_vec_scale,
+    matrix_vec_sub as estimators_matrix_vec_sub,
+};

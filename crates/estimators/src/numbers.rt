@@ -1,4 +1,4 @@
-// The names for C of src/core/scalar.rs: the functions of the number type, and its constants in a slice. Each forwards.
+// The names for C of src/core/scalar.rs: the functions of the number type, which stand in an impl and so are called, and its constants in a slice.
 ghost use Rattle.std.specs.Prelude.{◌≡◌, length};
 ghost use Rattle.root.specs.Root.{root as root_of};
 ghost use Rattle.scalar.specs.Number.{abs, clamp, saturated, of_whole};
@@ -47,7 +47,7 @@ pub fn estimators_scalar_to_f64(x: f64) -> f64
 pub fn estimators_scalar_from_int(v: i32) -> f64
     ensures { result ≡ of_whole v }
 {
-    v as f64
+    PidScalar::from_int(v)
 }
 
 pub fn estimators_scalar_pid_abs(x: f64) -> f64
