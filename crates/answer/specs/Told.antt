@@ -22,6 +22,14 @@ abbrev pub number_of : {A : Type 0} → Answer A → ℕ
 number_of (Err r) = number r
 number_of (Ok a) = 0
 
--- a number is told, and the answer stands in a lent place that held o; a refusal leaves the place as it was
+-- the same beside what a call leaves, as C is told it
+abbrev pub numbered : {A X : Type 0} → Answer A × X → ℕ × X
+numbered s = (number_of s.0, s.1)
+
+-- the answer stands in a lent place that held o; a refusal is told, and leaves the place as it was
+abbrev pub written : {A : Type 0} → A → Answer A → Answer (Unit {0}) × A
+written o a = handed (λ w. w) (λ x. x) o (into a)
+
+-- and as C is told it
 abbrev pub given : {A : Type 0} → A → Answer A → ℕ × A
-given o a = handed number_of (λ x. x) o (into a)
+given o a = numbered (written o a)

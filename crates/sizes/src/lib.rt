@@ -1,7 +1,7 @@
 // Sizes, 1 to 4: the type of them, and what the sizes that a call is given come to: the sizes by their type, or a refusal.
 #![tactic(auto)]
 
-ghost use Rattle.std.specs.Prelude.{◌≡◌, ◌&&◌};
+ghost use Rattle.std.specs.Prelude.{◌≡◌};
 ghost use Rattle.answer.specs.Answer.{where_sized};
 ghost use Rattle.sizes.specs.Size.{count, size_of, sized, shaped, alike, chained, inside, paired, applicable};
 
@@ -36,11 +36,8 @@ impl TryFrom<usize> for Size {
     ghost try_from_gives = { λ n r. r ≡ where_sized (sized n) (size_of n) };
 
     fn try_from(n: usize) -> Result<Size, Refusal> {
-        if is_size(n) {
-            Ok(size_of(n))
-        } else {
-            Err(Refusal::WrongSize)
-        }
+        fits(is_size(n))?;
+        Ok(size_of(n))
     }
 }
 
@@ -62,23 +59,30 @@ pub fn size_of(n: usize) -> Size
 
 // ---- tests, each one bool
 
-pub fn both(x: bool, y: bool) -> bool
-    ensures { result ≡ x && y }
+// Refused, where the sizes and lengths of a call are not as it asks.
+pub fn fits(test: bool) -> Result<(), Refusal>
+    ensures { result ≡ where_sized test tt }
 {
-    if x { y } else { false }
+    if test {
+        Ok(())
+    } else {
+        Err(Refusal::WrongSize)
+    }
 }
 
 // A size is 1 to 4; the limits of states, measurements, inputs and models are one number.
+#[tactic(auto, unfolding(crate::specs::Size::sized))]
 pub fn is_size(n: usize) -> bool
     ensures { result ≡ sized n }
 {
-    both(1 <= n, n <= ControlScalar::MAX_STATES)
+    (1 <= n) & (n <= ControlScalar::MAX_STATES)
 }
 
+#[tactic(auto, unfolding(crate::specs::Size::shaped))]
 pub fn is_shape(r: usize, c: usize) -> bool
     ensures { result ≡ shaped r c }
 {
-    both(is_size(r), is_size(c))
+    is_size(r) & is_size(c)
 }
 
 // ---- the sizes that a call is given, by their type
@@ -87,11 +91,8 @@ pub fn is_shape(r: usize, c: usize) -> bool
 pub fn shape(r: usize, c: usize) -> Result<(Size, Size), Refusal>
     ensures { result ≡ where_sized (shaped r c) (size_of r, size_of c) }
 {
-    if is_shape(r, c) {
-        Ok((size_of(r), size_of(c)))
-    } else {
-        Err(Refusal::WrongSize)
-    }
+    fits(is_shape(r, c))?;
+    Ok((size_of(r), size_of(c)))
 }
 
 // The sizes of a product: the first matrix has as many columns as the second has rows.
@@ -99,11 +100,8 @@ pub fn shape(r: usize, c: usize) -> Result<(Size, Size), Refusal>
 pub fn chain(ar: usize, ac: usize, br: usize, bc: usize) -> Result<(Size, Size, Size), Refusal>
     ensures { result ≡ where_sized (chained ar ac br bc) (size_of ar, size_of ac, size_of bc) }
 {
-    if both(is_shape(ar, ac), both(is_shape(br, bc), ac == br)) {
-        Ok((size_of(ar), size_of(ac), size_of(bc)))
-    } else {
-        Err(Refusal::WrongSize)
-    }
+    fits(is_shape(ar, ac) & (is_shape(br, bc) & (ac == br)))?;
+    Ok((size_of(ar), size_of(ac), size_of(bc)))
 }
 
 // The sizes of two matrices that have the same.
@@ -111,11 +109,8 @@ pub fn chain(ar: usize, ac: usize, br: usize, bc: usize) -> Result<(Size, Size, 
 pub fn alike(ar: usize, ac: usize, br: usize, bc: usize) -> Result<(Size, Size), Refusal>
     ensures { result ≡ where_sized (alike ar ac br bc) (size_of ar, size_of ac) }
 {
-    if both(is_shape(ar, ac), both(ar == br, ac == bc)) {
-        Ok((size_of(ar), size_of(ac)))
-    } else {
-        Err(Refusal::WrongSize)
-    }
+    fits(is_shape(ar, ac) & ((ar == br) & (ac == bc)))?;
+    Ok((size_of(ar), size_of(ac)))
 }
 
 // The sizes of a matrix that has a row i and a column j.
@@ -123,11 +118,8 @@ pub fn alike(ar: usize, ac: usize, br: usize, bc: usize) -> Result<(Size, Size),
 pub fn inside(r: usize, c: usize, i: usize, j: usize) -> Result<(Size, Size), Refusal>
     ensures { result ≡ where_sized (inside r c i j) (size_of r, size_of c) }
 {
-    if both(is_shape(r, c), both(i < r, j < c)) {
-        Ok((size_of(r), size_of(c)))
-    } else {
-        Err(Refusal::WrongSize)
-    }
+    fits(is_shape(r, c) & ((i < r) & (j < c)))?;
+    Ok((size_of(r), size_of(c)))
 }
 
 // The one size of two vectors.
@@ -135,11 +127,8 @@ pub fn inside(r: usize, c: usize, i: usize, j: usize) -> Result<(Size, Size), Re
 pub fn pair(n: usize, m: usize) -> Result<Size, Refusal>
     ensures { result ≡ where_sized (paired n m) (size_of n) }
 {
-    if both(is_size(n), n == m) {
-        Ok(size_of(n))
-    } else {
-        Err(Refusal::WrongSize)
-    }
+    fits(is_size(n) & (n == m))?;
+    Ok(size_of(n))
 }
 
 // The sizes of a matrix that has as many columns as a vector of n numbers has components.
@@ -147,9 +136,6 @@ pub fn pair(n: usize, m: usize) -> Result<Size, Refusal>
 pub fn applied(r: usize, c: usize, n: usize) -> Result<(Size, Size), Refusal>
     ensures { result ≡ where_sized (applicable r c n) (size_of r, size_of c) }
 {
-    if both(is_shape(r, c), c == n) {
-        Ok((size_of(r), size_of(c)))
-    } else {
-        Err(Refusal::WrongSize)
-    }
+    fits(is_shape(r, c) & (c == n))?;
+    Ok((size_of(r), size_of(c)))
 }
