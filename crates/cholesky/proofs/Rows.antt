@@ -17,6 +17,9 @@ use Rattle.answer.specs.Table.{table, pad_to}
 use Rattle.algebra.specs.Matrix.{Vector, Matrix, at, row, cell, dot}
 use Rattle.algebra.specs.Array.{used, pad_row, pad}
 use Rattle.answer.proofs.Tables.{table-get_or, get_or-pad_to, set-pad_to, pad_to-pad_to, length-pad_to}
+use Rattle.sizes.specs.declared.Size.{Size}
+use Rattle.sizes.specs.Size.{count}
+use Rattle.sizes.proofs.Sizes.{bounds}
 use Rattle.algebra.proofs.Matrices.{Shape}
 use Rattle.algebra.proofs.Vectors.{dot_ext}
 use Rattle.answer.proofs.Answers.{same_answer, mapped-refused}
@@ -54,7 +57,7 @@ pub left-none : (a : Vector) (L : Matrix) → replicate 4 +0 ≡ pad_row (left_c
 unfolding left_cells
 left-none a L = refl
 
-pub left-more : (a : Vector) (L : Matrix) (j : ℕ) {v r : List Float} → j < 4 → v ≡ pad_row (left_cells a L j)
+left-more : (a : Vector) (L : Matrix) (j : ℕ) {v r : List Float} → j < 4 → v ≡ pad_row (left_cells a L j)
     → r ≡ table 4 (λ t. cond (eqb j t) ((at a j ⊖ dot j v (row L j)) ⊘ cell L j j) (at v t)) → r ≡ pad_row (left_cells a L (j + 1))
 unfolding left_cells
 left-more a L j {v} h e p =
@@ -62,6 +65,22 @@ left-more a L j {v} h e p =
     ap (λ (u : Vector). dot j u (row L j)) e ∙ dot_ext j _ _ _ _ (λ t g. at_pad_row a L j t g) (λ t g. refl) in
     put_next a L j _ h e (p ∙ ap (λ (y : Float). table 4 (λ t. cond (eqb j t) ((at a j ⊖ y) ⊘ cell L j j) (at v t))) same)
     ∙ ap (λ (k : ℕ). pad_row (left_cells a L k)) (sym (add-one j))
+
+-- one cell, two and three, of a row that begins as none
+abbrev none : Vector
+none = replicate 4 +0
+
+abbrev Next : Vector → Matrix → ℕ → Vector → Vector → Type 0
+Next a L j v r = r ≡ table 4 (λ t. cond (eqb j t) ((at a j ⊖ dot j v (row L j)) ⊘ cell L j j) (at v t))
+
+pub left_one : (a : Vector) (L : Matrix) {r : Vector} → Next a L 0 none r → r ≡ pad_row (left_cells a L 1)
+left_one a L e = left-more a L 0 (omega arith) (left-none a L) e
+
+pub left_two : (a : Vector) (L : Matrix) {v r : Vector} → Next a L 0 none v → Next a L 1 v r → r ≡ pad_row (left_cells a L 2)
+left_two a L d e = left-more a L 1 (omega arith) (left_one a L d) e
+
+pub left_three : (a : Vector) (L : Matrix) {u v r : Vector} → Next a L 0 none u → Next a L 1 u v → Next a L 2 v r → r ≡ pad_row (left_cells a L 3)
+left_three a L c d e = left-more a L 2 (omega arith) (left_two a L c d) e
 
 -- ---- the rows
 
@@ -73,9 +92,9 @@ pub record Factoring (n : ℕ) (a : Matrix) (i : ℕ) (l : List (List Float)) : 
   pub so_far : factor_rows n a i ≡ Ok rows
   pub is : l ≡ pad rows
 
-pub factoring_none : (n : ℕ) (a : Matrix) → n ≤ 4 → Factoring n a 0 (replicate 4 (replicate 4 +0))
+pub factoring_none : (s : Size) (a : Matrix) {n : ℕ} → n ≡ count s → Factoring n a 0 (replicate 4 none)
 unfolding factor_rows pad
-factoring_none n a h = record { most = h; within = omega arith; rows = []; so_far = refl; is = refl }
+factoring_none s a e = record { most = omega (arith, bounds s); within = omega arith; rows = []; so_far = refl; is = refl }
 
 -- A turn: v is row i left of its diagonal as the code makes it from the array
 module _ {n : ℕ} {a : Matrix} {i : ℕ} {l : List (List Float)} (e : Factoring n a i l) (hi : i < n)
@@ -161,3 +180,9 @@ module _ {n : ℕ} {a : Matrix} {i : ℕ} {l : List (List Float)} {v : List Floa
 
   pub row-refused : {j : Refusal} {k : ℕ} → o ≡ Err j → n ≡ k → Err j ≡ as_matrix (cholesky k (used k k a))
   row-refused q same = sym (factor_at a same (factoring_refused e more left_is (mapped-refused _ _ _ (sym made ∙ q))))
+
+-- the first row, which has only its diagonal
+pub first_row : (s : Size) (a : Matrix) {n : ℕ} {o : Answer (List Float)} {r : List Float} → n ≡ count s
+    → o ≡ mapped (λ x. table 4 (λ j. cond (eqb 0 j) x (at none j))) (diagonal_of (cell a 0 0 ⊖ dot 0 none none)) → o ≡ Ok r
+    → Factoring n a 1 (set (replicate 4 none) 0 r)
+first_row s a e made q = row_made (factoring_none s a e) (omega (arith, bounds s)) (left-none _ _) made q

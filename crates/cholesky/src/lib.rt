@@ -89,6 +89,7 @@ pub fn factor_of(a: &[[f64; 4]; 4], n: Size) -> Result<[[f64; 4]; 4], Refusal>
 }
 
 // The same, of a matrix by value. Refused too: n is no size.
+#[tactic(auto, using(matrix::proofs::Results::size_given))]
 pub fn cholesky(a: [[f64; 4]; 4], n: usize) -> Result<[[f64; 4]; 4], Refusal>
     ensures { result ≡ as_matrix (if_sized (sized n) (cholesky_of n (used n n a))) }
 {

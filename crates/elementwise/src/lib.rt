@@ -225,12 +225,13 @@ pub fn frob_norm(a: [[f64; 4]; 4], r: usize, c: usize) -> Result<f64, Refusal>
     Ok(ControlScalar::sqrt(sum_of_squares(&a, rows, cols)))
 }
 
-// The sum of the diagonal, from +0 on: one index is both row and column.
+// The sum of the diagonal, from +0 on.
 fn diagonal_sum(a: &[[f64; 4]; 4], n: Size) -> f64
     ensures { result ≡ trace (count n) (part n n a.now) }
 {
     let rows = usize::from(n);
     let mut t = 0.0;
+    // The index is both row and column.
     for i in 0..rows {
         t = t + a[i][i];
     }
@@ -238,6 +239,7 @@ fn diagonal_sum(a: &[[f64; 4]; 4], n: Size) -> f64
 }
 
 // The sum of the diagonal of a, n rows and columns. Refused with 1: the size.
+#[tactic(auto, using(matrix::proofs::Results::size_given))]
 pub fn trace(a: [[f64; 4]; 4], n: usize) -> Result<f64, Refusal>
     ensures { result ≡ where_sized (sized n) (trace n (used n n a)) }
 {
@@ -255,11 +257,12 @@ fn equal_row(v: [f64; 4], w: [f64; 4], n: Size) -> bool
     v[..cols] == w[..cols]
 }
 
-// Whether all used cells are equal. An index goes through both in step.
+// Whether all used cells are equal.
 fn equal_rows<'a>(a: &'a [[f64; 4]; 4], b: &'a [[f64; 4]; 4], r: Size, c: Size) -> bool
     ensures { result ≡ equal (count r) (count c) (part r c a.now) (part r c b.now) }
 {
     let rows = usize::from(r);
+    // The index goes through a and b in step.
     for i in 0..rows {
         if !equal_row(a[i], b[i], c) {
             return false;

@@ -1,4 +1,4 @@
--- Laws of ways out after each model: what holds of each model there, the first numbers of a row, and a sum term by term. Assumes nothing.
+-- Laws of the models' numbers: the first numbers of a row, and a sum term by term. Assumes nothing.
 use mathlib.Core.Path.{◌≡◌, refl, ap, ◌∙◌}
 use mathlib.Core.List.{List}
 use Prim.Native.Nat.{ℕ, zero, suc, ◌≤◌, ◌<◌}
@@ -10,30 +10,6 @@ use Rattle.answer.specs.Table.{table}
 use Rattle.answer.proofs.Tables.{table_ext}
 use Rattle.algebra.specs.Matrix.{at, sum_from, sum_of}
 use Rattle.algebra.specs.Array.{cut}
-
--- ---- for each of c models
-module _ (P : ℕ → Type 0) (c : ℕ) where
-  pub up_to_one : c < 2 → P 0 → (i : ℕ) → i < c → P i
-  up_to_one h p zero g = p
-  up_to_one h p (suc i) g = absurd (omega arith)
-
-  pub up_to_two : c < 3 → P 0 → P 1 → (i : ℕ) → i < c → P i
-  up_to_two h p q zero g = p
-  up_to_two h p q (suc zero) g = q
-  up_to_two h p q (suc (suc i)) g = absurd (omega arith)
-
-  pub up_to_three : c < 4 → P 0 → P 1 → P 2 → (i : ℕ) → i < c → P i
-  up_to_three h p q r zero g = p
-  up_to_three h p q r (suc zero) g = q
-  up_to_three h p q r (suc (suc zero)) g = r
-  up_to_three h p q r (suc (suc (suc i))) g = absurd (omega arith)
-
-  pub up_to_four : c ≤ 4 → P 0 → P 1 → P 2 → P 3 → (i : ℕ) → i < c → P i
-  up_to_four h p q r s zero g = p
-  up_to_four h p q r s (suc zero) g = q
-  up_to_four h p q r s (suc (suc zero)) g = r
-  up_to_four h p q r s (suc (suc (suc zero))) g = s
-  up_to_four h p q r s (suc (suc (suc (suc i)))) g = absurd (omega arith)
 
 -- ---- the first c numbers of v
 pub first_are : (c : ℕ) (v : List Float) (f : ℕ → Float) → ((j : ℕ) → j < c → at v j ≡ f j) → cut c v ≡ table c f
@@ -47,10 +23,6 @@ columns g n = table 4 (λ c. sum_of n (λ i. g i c))
 pub columns-none : (g : ℕ → ℕ → Float) → replicate 4 +0 ≡ columns g 0
 unfolding sum_from
 columns-none g = refl
-
-pub columns-one : (g : ℕ → ℕ → Float) {u : List Float} → u ≡ table 4 (λ c. +0 ⊕ g 0 c) → u ≡ columns g 1
-unfolding sum_from
-columns-one g e = e
 
 pub columns-more : (g : ℕ → ℕ → Float) (t : ℕ) {s u : List Float} → s ≡ columns g t → u ≡ table 4 (λ c. at s c ⊕ g t c) → u ≡ columns g (suc t)
 unfolding sum_from

@@ -114,6 +114,7 @@ pub fn mixed_row<'a>(
 {
     let models = usize::from(k);
     let mut s = [0.0; 4];
+    // The index is a model: a row of p and of x, and a number of y and of w.
     for i in 0..models {
         let next = plus_spread(s, p[i], x[i], m, y[i], w[i]);
         s = next;
@@ -134,6 +135,7 @@ fn mixed_covariance<'a>(
 {
     let rows = usize::from(n);
     let mut out = [[0.0; 4]; 4];
+    // The index is a row of every covariance and of the result, and a number of every state and of m.
     for r in 0..rows {
         let of = [p[0][r], p[1][r], p[2][r], p[3][r]];
         let y = [
@@ -196,6 +198,7 @@ pub fn mix(
     let models = usize::from(k);
     let mut xs = [[0.0; 4]; 4];
     let mut ps = [[[0.0; 4]; 4]; 4];
+    // The index is a column of w, and a place in both results.
     for j in 0..models {
         let v = [w[0][j], w[1][j], w[2][j], w[3][j]];
         let m = weighted(x, v, n, k);

@@ -1,5 +1,5 @@
 -- Laws of the code's columns, on two arrays of rows whose used parts are the definition's two matrices. Assumes nothing.
-use mathlib.Core.Path.{◌≡◌, refl, sym, ap, ◌∙◌, subst}
+use mathlib.Core.Path.{◌≡◌, refl, sym, ap, ◌∙◌}
 use mathlib.Core.List.{[]}
 use mathlib.Core.Bool.{true, false}
 use Prim.Native.Nat.{ℕ, zero, suc, ◌+◌, ◌-◌, ◌≤◌, ◌<◌}
@@ -7,7 +7,7 @@ use native.Mathlib.Nat.{le_trans, add-zero, add-suc}
 use native.Mathlib.Numerals.{add-one}
 use native.Mathlib.Omega.{arith}
 use lib.ListN.{length, set, length-set}
-use lib.Seq.{set-get_or, get_or-set_same}
+use lib.Seq.{get_or-set_same}
 use lib.Ieee.{Float, nan}
 use Rattle.scalar.specs.Number.{◌⊘◌, one, abs}
 use Rattle.std.specs.Prelude.{Ok, Err}
@@ -21,31 +21,19 @@ use Rattle.matrix.specs.Result.{as_matrix}
 use Rattle.sizes.specs.declared.Size.{Size}
 use Rattle.sizes.specs.declared.Size.TheVariants.{One, Two, Three, Four}
 use Rattle.sizes.specs.Size.{count, part}
+use Rattle.sizes.proofs.Sizes.{bounds}
 use Rattle.answer.proofs.Tables.{get_or-table, table_ext}
 use Rattle.algebra.proofs.Matrices.{Shape, shape-identity}
 use Rattle.algebra.proofs.Arrays.{cell-used, identity-used, used_all, used-four}
 use Rattle.algebra.specs.Inverse.{no_pivot, pivot_row, scaled_row, reduced, Augmented, ◌beside◌, exchanged, cleared, column, columns, inv}
-use Rattle.inverse.specs.Rows.{Swap, Scale, Reduce, Bring, Clear, Swept}
+use Rattle.inverse.specs.Rows.{Scale, Reduce, Bring, Clear, Swept}
 use Rattle.answer.proofs.Answers.{same_answer, if_true, if_false}
 use Rattle.algebra.proofs.Inverses.{column_ext, inv-shape}
 use Rattle.inverse.proofs.Rows.{swapped-used, scaled_used}
 
 -- ---- one column: on one of the arrays, m, which becomes m'
 
-pub swap-none : {p c : ℕ} (m : Matrix) → p ≡ c → Swap p c m m
-swap-none {p} {c} m e =
-    let stays : m ≡ set m c (row m c) = sym (set-get_or m c []) in
-    record {
-      is = subst (λ (q : ℕ). m ≡ set (set m q (row m c)) c (row m q)) (sym e) (stays ∙ ap (λ (w : Matrix). set w c (row m c)) stays);
-    }
-
-swap-long : {p c : ℕ} {m m' : Matrix} → length m ≡ 4 → Swap p c m m' → length m' ≡ 4
-swap-long long x = ap length x.is ∙ simp length-set long
-
 module _ {c : ℕ} {s : Float} {m m' : Matrix} (long : length m ≡ 4) (y : Scale c s m m') where
-  pub scale-long : length m' ≡ 4
-  scale-long = ap length y.is ∙ simp length-set long
-
   turn_scaled : (n : ℕ) → n ≤ 4 → c < n → used n n m' ≡ scaled_row n c s (used n n m)
   turn_scaled n four h = ap (used n n) y.is ∙ scaled_used n m (omega (arith, long)) c s four h
 
@@ -53,17 +41,6 @@ factors_used : (n c : ℕ) (a : Matrix) → n ≤ 4 → c < n → cut n (table 4
 unfolding cut
 factors_used n c a four h =
     table_ext n _ _ (λ i hi. get_or-table 4 (λ k. cell a k c) i nan (le_trans hi four) ∙ sym (cell-used n n a i c hi h))
-
--- on both arrays, l and r: p is the pivot's row
-pub brought : {n c p : ℕ} {l r l' r' : Matrix} → p ≡ pivot_row l c (n - suc c) → length l ≡ 4 → length r ≡ 4
-    → Swap p c l l' → Swap p c r r' → Bring n c l r l' r'
-brought {n} {c} {p} {l} {r} {l'} {r'} e hl hr x y =
-    record {
-      left = subst (λ (q : ℕ). Swap q c l l') e x;
-      right = subst (λ (q : ℕ). Swap q c r r') e y;
-      left_long = swap-long hl x;
-      right_long = swap-long hr y;
-    }
 
 -- the pivot stands on the diagonal; it and the factors f are read off the left array
 pub turn : {c : ℕ} {l l₂ l₃ r r₂ r₃ : Matrix} {f : Vector} → length l ≡ 4 → length r ≡ 4
@@ -127,15 +104,17 @@ pub record Sweeping (n : ℕ) (A : Matrix) (c : ℕ) (l r : Matrix) : Type 0 whe
   pub right : length r ≡ 4
   pub is : columns n c A ≡ Ok (used n n l beside used n n r)
 
-pub sweeping_none : (n : ℕ) (a r : Matrix) → n ≤ 4 → r ≡ identity 4 → Sweeping n (used n n a) 0 (table 4 (λ i. row a i)) r
+pub sweeping_none : (n : Size) (a : Matrix) {r : Matrix} → r ≡ identity 4 → Sweeping (count n) (part n n a) 0 (table 4 (λ i. row a i)) r
 unfolding columns
-sweeping_none n a r four e =
+sweeping_none n a e =
+    let m = count n in
+    let four = (bounds n).most in
     record {
       most = four;
       within = omega arith;
       left = refl;
       right = ap length e ∙ (shape-identity 4).rows;
-      is = sym (λ k. Ok (used-four n n a four k beside (ap (used n n) e ∙ identity-used n four) k));
+      is = sym (λ k. Ok (used-four m m a four k beside (ap (used m m) e ∙ identity-used m four) k));
     }
 
 -- a refusal stands
@@ -160,11 +139,11 @@ module _ {n : ℕ} {A : Matrix} {c : ℕ} {l r : Matrix} (e : Sweeping n A c l r
         is = ap (λ (i : ℕ). columns n i A) (add-one c) ∙ one_more ∙ s.0;
       }
 
-  pub sweeping_refused : {k : Refusal} → c < n → column n c (used n n l beside used n n r) ≡ Err k → inv n A ≡ Err k
+  pub sweeping_refused : {k : Refusal} → c < n → column n c (used n n l beside used n n r) ≡ Err k → Err k ≡ as_matrix (inv n A)
   unfolding inv
   sweeping_refused h q =
       let all : suc c + (n - suc c) ≡ n = omega arith in
-      ap (mapped (λ w. w.right)) (ap (λ (i : ℕ). columns n i A) (sym all) ∙ refused_on n (suc c) (n - suc c) A (one_more ∙ q))
+      sym (ap (λ (o : Answer Augmented). as_matrix (mapped (λ w. w.right) o)) (ap (λ (i : ℕ). columns n i A) (sym all) ∙ refused_on n (suc c) (n - suc c) A (one_more ∙ q)))
 
   -- all columns are done: p is the used part of the right array, as the code hands it over
   pub sweeping_out : {p : Matrix} → n ≤ c → p ≡ pad (used c c r) → Ok p ≡ as_matrix (inv n A)
@@ -173,6 +152,14 @@ module _ {n : ℕ} {A : Matrix} {c : ℕ} {l r : Matrix} (e : Sweeping n A c l r
       let same : c ≡ n = omega (arith, h, e.within) in
       ap Ok (q ∙ ap (λ (k : ℕ). pad (used k k r)) same)
       ∙ ap (λ (o : Answer Augmented). as_matrix (mapped (λ w. w.right) o)) (sym (ap (λ (i : ℕ). columns n i A) (sym same) ∙ e.is))
+
+-- two columns, and three
+module _ {n : ℕ} {A : Matrix} {l r : Matrix} (e : Sweeping n A 0 l r) (many : 3 ≤ n) where
+  pub after_two : (l1 r1 : Matrix) {l2 r2 : Matrix} → Swept n 0 l r l1 r1 (Ok tt) → Swept n 1 l1 r1 l2 r2 (Ok tt) → Sweeping n A 2 l2 r2
+  after_two l1 r1 s t = sweeping_more (sweeping_more e (omega arith) s) (omega arith) t
+
+  pub after_three : (l1 r1 l2 r2 : Matrix) {l3 r3 : Matrix} → Swept n 0 l r l1 r1 (Ok tt) → Swept n 1 l1 r1 l2 r2 (Ok tt) → Swept n 2 l2 r2 l3 r3 (Ok tt) → Sweeping n A 3 l3 r3
+  after_three l1 r1 l2 r2 s t u = sweeping_more (after_two l1 r1 s t) (omega arith) u
 
 -- ---- a result whose rows are read again, all four numbers of each: it stays
 

@@ -39,3 +39,5 @@ module _ {A : Matrix} {c n i p : ℕ} {x : Float} (e : Searching A c n i p x) wh
 
     pub searching-kept : lt x y ≡ false → Searching A c n (i + 1) p x
     searching-kept t = searching (leading_kept counted h v t)
+
+pub ruleset searches = (searching-first, searching-past, searching-passed, searching-kept, searching-all)

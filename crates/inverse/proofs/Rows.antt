@@ -1,5 +1,5 @@
 -- Laws of the code's operations on rows: what they make of the used part of an array of four rows. Assumes nothing.
-use mathlib.Core.Path.{◌≡◌, refl, sym, ap, ◌∙◌, subst}
+use mathlib.Core.Path.{◌≡◌, sym, ap, ◌∙◌, subst}
 use mathlib.Core.List.{[]}
 use mathlib.Core.Bool.{cond}
 use Prim.Native.Nat.{ℕ, ◌+◌, ◌≤◌, ◌<◌}
@@ -52,9 +52,6 @@ pub record Reducing (f : Vector) (a : Matrix) (c i : ℕ) (l : Matrix) : Type 0 
   pub within : i ≤ 4
   pub is : l ≡ filled i (reduced_row f a c) a
 
-pub reducing-none : (f : Vector) (a : Matrix) (c : ℕ) → Reducing f a c 0 a
-reducing-none f a c = record { within = omega arith; is = refl }
-
 module _ {f : Vector} {a : Matrix} {c i : ℕ} {l : Matrix} (e : Reducing f a c i l) (fits : length a ≡ 4) where
   inside : i < 4 → i < length a
   inside h = subst (λ (k : ℕ). i < k) (sym fits) h
@@ -91,3 +88,5 @@ module _ {f : Vector} {a : Matrix} {c i : ℕ} {l : Matrix} (e : Reducing f a c 
             ∙ sym (λ t. cond (eqb k c) (cell-used n n a c j hc hj t) (cell-used n n a k j hk hj t ⊖ at_cut n f k hk t ⊗ cell-used n n a c j hc hj t)));
         long = ap length e.is ∙ length-filled i (reduced_row f a c) a (subst (λ (k : ℕ). i ≤ k) (sym fits) e.within) ∙ fits;
       }
+
+pub ruleset reductions = (reducing-stored, reducing-kept)

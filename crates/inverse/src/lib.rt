@@ -21,6 +21,7 @@ use small_inverse::{inverse_number, inverse_two, no_pivot};
 
 // The first row, from the diagonal down, of largest magnitude in column col.
 #[inline(always)]
+#[tactic(auto, using(crate::proofs::Pivots::searches, sizes::proofs::Sizes::bounds))]
 fn pivot_row(a: &[[f64; 4]; 4], n: Size, col: usize) -> usize
     requires { col < count n }
     ensures { (result ≡ pivot_row a.now col (count n - suc col)) × (result < count n) }
@@ -28,6 +29,7 @@ fn pivot_row(a: &[[f64; 4]; 4], n: Size, col: usize) -> usize
     let rows = usize::from(n);
     let mut p = col;
     let mut largest = ControlScalar::abs(a[col][col]);
+    // The index is what is told; the end is a literal, so that a compiler writes the turns out, and a row past n is passed by.
     for i in col + 1..4 {
         if i < rows {
             let x = ControlScalar::abs(a[i][col]);
@@ -71,11 +73,13 @@ fn column_of(m: &[[f64; 4]; 4], col: usize) -> [f64; 4]
 
 // Each row i but col less f[i] times row col.
 #[inline(always)]
+#[tactic(auto, using(crate::proofs::Rows::reductions))]
 fn reduce_rows(m: &mut [[f64; 4]; 4], col: usize, f: [f64; 4])
     requires { (col < 4) × (length m.old ≡ 4) }
     ensures { Reduce col f m.old m.new }
 {
     let w = m[col];
+    // The index is a row of m and a number of f, and tells row col, which stays.
     for i in 0..4 {
         if i != col {
             let v = m[i];
@@ -162,6 +166,7 @@ fn eliminate(a: &[[f64; 4]; 4], n: Size) -> Result<[[f64; 4]; 4], Refusal>
 
 // ---- the sizes 1 and 2, straight-line
 
+#[tactic(auto, using(small_inverse::proofs::Two::number_is), unfolding(algebra::specs::Array::pad))]
 fn of_one(x: f64) -> Result<[[f64; 4]; 4], Refusal>
     ensures { result ≡ as_matrix (inv_of 1 (one_by_one x)) }
 {
@@ -170,6 +175,7 @@ fn of_one(x: f64) -> Result<[[f64; 4]; 4], Refusal>
     Ok([[w, 0.0, 0.0, 0.0], none, none, none])
 }
 
+#[tactic(auto, using(small_inverse::proofs::Two::two_read), unfolding(algebra::specs::Array::pad, algebra::specs::Array::used, algebra::specs::Array::cut))]
 fn of_two(a: f64, b: f64, c: f64, d: f64) -> Result<[[f64; 4]; 4], Refusal>
     ensures { result ≡ as_matrix (inv_of 2 (two_by_two a b c d)) }
 {
@@ -195,6 +201,7 @@ fn read_again(m: [[f64; 4]; 4]) -> [[f64; 4]; 4]
 }
 
 // The inverse of the n by n matrix a, lent. Refused as singular: a column has no pivot.
+#[tactic(auto, using(crate::proofs::Elimination::inv_at), unfolding(algebra::specs::Array::used, algebra::specs::Array::cut))]
 pub fn inverse_of(a: &[[f64; 4]; 4], n: Size) -> Result<[[f64; 4]; 4], Refusal>
     ensures { result ≡ as_matrix (inv_of (count n) (part n n a.now)) }
 {

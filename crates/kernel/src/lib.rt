@@ -119,12 +119,13 @@ pub fn vector_difference(v: [f64; 4], w: [f64; 4], n: Size) -> [f64; 4]
     pairwise::<Difference>(v, w, n)
 }
 
-// The sum of the first n products of v and w; +0 where n is above 4. An index goes through both in step.
+// The sum of the first n products of v and w; +0 where n is above 4.
 pub fn dot<'a>(v: &'a [f64; 4], w: &'a [f64; 4], n: usize) -> f64
     ensures { result ≡ cond (leb n 4) (dot_of n v.now w.now) +0 }
 {
     let mut s = 0.0;
     if n <= 4 {
+        // The index goes through v and w in step.
         for i in 0..n {
             s = s + v[i] * w[i];
         }
@@ -154,11 +155,12 @@ pub fn from_flat(cells: &[f64; 16]) -> [[f64; 4]; 4]
     [r0, r1, r2, r3]
 }
 
-// The rows, one after another, by one index: `as_flattened` does not tell how long rows behind a reference are.
+// The rows, one after another.
 pub fn to_flat(rows: &[[f64; 4]; 4]) -> [f64; 16]
     ensures { result ≡ flat_of_rows rows.now }
 {
     let mut out = [0.0; 16];
+    // The index tells row and column: `as_flattened` does not say how long rows behind a reference are.
     for n in 0..16 {
         out[n] = rows[n / 4][n % 4];
     }

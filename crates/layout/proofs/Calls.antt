@@ -1,12 +1,12 @@
 -- What a reading or a writing hands over: for the functions' proofs its two ways out, and for a caller what it has where there is room. Assumes nothing.
-use mathlib.Core.Path.{◌≡◌, sym, ap, ap₂, ◌∙◌}
+use mathlib.Core.Path.{◌≡◌, ap, ap₂, ◌∙◌}
 use mathlib.Core.List.{List, [], ◌++◌}
-use mathlib.Core.Bool.{Bool, true, false, cond}
 use Prim.Native.Nat.{ℕ, ◌+◌, ◌*◌, ◌≤◌, ◌<◌}
 use native.Mathlib.Omega.{arith}
 use lib.ListN.{length, length-append}
 use lib.Ieee.{Float}
-use Rattle.answer.proofs.Choice.{cond-true, cond-false}
+use Rattle.std.proofs.lemmas.Bool.Decides.{nat_tests}
+use Rattle.answer.proofs.Choice.{cond-true}
 use Rattle.answer.proofs.Tables.{length-table}
 use Rattle.algebra.specs.Array.{cut, used, pad_row, pad}
 use Rattle.algebra.proofs.Matrices.{shape-mat}
@@ -14,8 +14,8 @@ use Rattle.algebra.proofs.Arrays.{length_cut, shape-used, cut-pad_row, used-pad}
 use Rattle.sizes.specs.declared.Size.{Size}
 use Rattle.sizes.specs.Size.{count}
 use Rattle.sizes.proofs.Sizes.{bounds}
-use Rattle.layout.specs.Layout.{vector_at, matrix_at, joined, placed, room, vector_in, matrix_in, put_at, Parts, part_rows, part_columns, total, offset, part_at}
-use Rattle.layout.proofs.Places.{room_of, room-true}
+use Rattle.layout.specs.Layout.{vector_at, matrix_at, joined, placed, vector_in, matrix_in, put_at, Parts, part_rows, part_columns, total, offset, part_at}
+use Rattle.layout.proofs.Places.{room_of, room-true, part-placed, then-placed}
 use Rattle.layout.proofs.Rows.{length-rows}
 use Rattle.layout.proofs.Parts.{part-within}
 use native.Mathlib.Nat.{mul-le-mul}
@@ -26,27 +26,15 @@ length-matrix r c m = length-rows r c (used r c m) (shape-used r c m)
 pub length-pair : (n : ℕ) (x : List Float) (p : List (List Float)) → length (cut n x ++ joined (used n n p)) ≡ n + n * n
 length-pair n x p = length-append (cut n x) (joined (used n n p)) ∙ ap₂ (λ (i j : ℕ). i + j) (length_cut n x) (length-matrix n n p)
 
+-- for a writing's two ways out
+pub ruleset writing = (nat_tests, length_cut, length-matrix, length-pair, part-placed, then-placed)
+
 -- ---- sizes as the code has them, numbers
 pub few : (r c : Size) {l j : ℕ} → l ≡ count r → j ≡ count c → l * j ≤ 16
 few r c {l} {j} d e =
     let rows : l ≤ 4 = omega (arith, d, bounds r) in
     let columns : j ≤ 4 = omega (arith, e, bounds c) in
     mul-le-mul rows columns
-
--- ---- the two ways out, where t is the test of the n numbers, which the code has as j
-module _ (k : ℕ) (b : List Float) {t : Bool} {j n : ℕ} (d : j ≡ n) (e : t ≡ room k j (length b)) where
-  test_is : {x : Bool} → t ≡ x → room k n (length b) ≡ x
-  test_is q = ap (λ (m : ℕ). room k m (length b)) (sym d) ∙ sym e ∙ q
-
-  pub there_is : t ≡ true → k + n ≤ length b
-  there_is q = room_of k n (length b) (test_is q)
-
-  -- what is read or left, x, and what there is else, z
-  pub found : {A : Type 0} (x z : A) {v : A} → t ≡ true → v ≡ x → v ≡ cond (room k n (length b)) x z
-  found x z q p = p ∙ sym (cond-true x z (test_is q))
-
-  pub missed : {A : Type 0} (x z : A) → t ≡ false → z ≡ cond (room k n (length b)) x z
-  missed x z q = sym (cond-false x z (test_is q))
 
 -- ---- what a caller has where there is room: the sizes of the call, as l and j, are its own, r and c or n
 module _ (k : ℕ) (b : List Float) where

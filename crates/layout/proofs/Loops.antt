@@ -10,8 +10,6 @@ use lib.Ieee.{Float}
 use Rattle.answer.specs.Table.{table}
 use Rattle.algebra.specs.Matrix.{at}
 use Rattle.algebra.specs.Array.{cut}
-use Rattle.sizes.specs.declared.Size.{Size}
-use Rattle.sizes.specs.Size.{front}
 use Rattle.layout.specs.Layout.{joined, placed}
 use Rattle.layout.proofs.Places.{length-placed, placed-none, set-placed, placed-after, placed-next}
 use Rattle.layout.proofs.Rows.{joined-more, length-joined}
@@ -63,9 +61,6 @@ putting_all {k} {w} {f} {b} {n} {i} p h =
 
 -- the first one to four numbers of v, set in b one after another
 module _ (b v : List Float) (k : ℕ) where
-  pub written : {s t : Size} {l : List Float} → s ≡ t → l ≡ placed k (front t v) b → l ≡ placed k (front s v) b
-  written e h = h ∙ ap (λ (n : Size). placed k (front n v) b) (sym e)
-
   pub write_one : k + 0 < length b → set b k (at v 0) ≡ placed k (cut 1 v) b
   unfolding cut
   write_one h = set-placed k (at v 0) b (omega arith)
@@ -81,3 +76,5 @@ module _ (b v : List Float) (k : ℕ) where
   pub write_four : k + 3 < length b → set (set (set (set b k (at v 0)) (k + 1) (at v 1)) (k + 2) (at v 2)) (k + 3) (at v 3) ≡ placed k (cut 4 v) b
   unfolding cut
   write_four h = placed-next k (cut 3 v) (at v 3) b h (write_three (omega arith))
+
+pub ruleset writing_out = (write_one, write_two, write_three, write_four)

@@ -139,9 +139,6 @@ module _ (q : ℕ) (l b : List Float) (h : q + length l ≤ length b) where
   at_kept {k} (before e) i g = at_before q l b h (k + i) (omega arith)
   at_kept {k} (past e) i g = at_past q l b h (k + i) (omega arith)
 
-  pub vector-kept : {n k : ℕ} → Apart k n q (length l) → vector_at n (placed q l b) k ≡ vector_at n b k
-  vector-kept {n} {k} a = table_ext n (λ i. at (placed q l b) (k + i)) (λ i. at b (k + i)) (λ i p. at_kept a i p)
-
   pub matrix-kept : {k : ℕ} (r c : ℕ) → Apart k (r * c) q (length l) → matrix_at r c (placed q l b) k ≡ matrix_at r c b k
   matrix-kept {k} r c a =
       mat_ext r c (λ i j. at (placed q l b) (k + i * c + j)) (λ i j. at b (k + i * c + j))

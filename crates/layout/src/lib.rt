@@ -44,6 +44,7 @@ fn read_matrix(b: &[f64], k: usize, r: Size, c: Size) -> [[f64; 4]; 4]
     let rows = usize::from(r);
     let columns = usize::from(c);
     let mut out = [[0.0; 4]; 4];
+    // The index is a row of the result and, times the columns, its place in the slice.
     for i in 0..rows {
         out[i] = read_vector(b, k + i * columns, c);
     }
@@ -62,6 +63,7 @@ pub fn vector_at(b: &[f64], k: usize, n: Size) -> [f64; 4]
 }
 
 // The r rows of c numbers from number k on.
+#[tactic(auto, using(std::proofs::lemmas::Bool::Decides::nat_tests), unfolding(crate::specs::Layout::room, algebra::specs::Array::pad))]
 pub fn matrix_at(b: &[f64], k: usize, r: Size, c: Size) -> [[f64; 4]; 4]
     ensures { result ≡ pad (matrix_in (count r) (count c) b.now k) }
 {
@@ -74,6 +76,7 @@ pub fn matrix_at(b: &[f64], k: usize, r: Size, c: Size) -> [[f64; 4]; 4]
 
 // ---- numbers into a slice, from number k on; every other number stays
 
+#[tactic(auto, using(crate::proofs::Loops::writing_out))]
 fn write_vector(b: &mut [f64], k: usize, v: [f64; 4], n: Size)
     requires { k + count n ≤ length b.old }
     ensures { b.new ≡ placed k (front n v) b.old }
@@ -106,12 +109,14 @@ fn write_matrix(b: &mut [f64], k: usize, m: &[[f64; 4]; 4], r: Size, c: Size)
 {
     let rows = usize::from(r);
     let columns = usize::from(c);
+    // The index is a row of m and, times the columns, its place in the slice.
     for i in 0..rows {
         write_vector(b, k + i * columns, m[i], c);
     }
 }
 
 // The first n numbers of v.
+#[tactic(auto, using(crate::proofs::Calls::writing), unfolding(crate::specs::Layout::room))]
 pub fn put_vector(b: &mut [f64], k: usize, v: [f64; 4], n: Size)
     ensures { b.new ≡ put_at k (front n v) b.old }
 {
@@ -121,6 +126,7 @@ pub fn put_vector(b: &mut [f64], k: usize, v: [f64; 4], n: Size)
 }
 
 // The r rows and c columns of m.
+#[tactic(auto, using(crate::proofs::Calls::writing), unfolding(crate::specs::Layout::room))]
 pub fn put_matrix(b: &mut [f64], k: usize, m: &[[f64; 4]; 4], r: Size, c: Size)
     ensures { b.new ≡ put_at k (joined (part r c m.now)) b.old }
 {
@@ -130,6 +136,7 @@ pub fn put_matrix(b: &mut [f64], k: usize, m: &[[f64; 4]; 4], r: Size, c: Size)
 }
 
 // A state x of n numbers, then its covariance p, n rows of n numbers.
+#[tactic(auto, using(crate::proofs::Calls::writing), unfolding(crate::specs::Layout::room))]
 pub fn put_pair(b: &mut [f64], k: usize, x: [f64; 4], p: &[[f64; 4]; 4], n: Size)
     ensures { b.new ≡ put_at k (front n x ++ joined (part n n p.now)) b.old }
 {
@@ -141,6 +148,7 @@ pub fn put_pair(b: &mut [f64], k: usize, x: [f64; 4], p: &[[f64; 4]; 4], n: Size
 }
 
 // The numbers of l.
+#[tactic(auto, using(crate::proofs::Calls::writing), unfolding(crate::specs::Layout::room))]
 pub fn put_slice(b: &mut [f64], k: usize, l: &[f64])
     ensures { b.new ≡ put_at k l.now b.old }
 {

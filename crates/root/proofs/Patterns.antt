@@ -107,3 +107,6 @@ up_to x h n =
 -- and bits that are not above these are no NaN's
 pub plain-bits : (b : ℕ) → b % sign_bit ≤ infinity → T (not (nan_bits binary64 b))
 plain-bits b h = subst (λ (t : Bool). T (not t)) (sym (nan_bits_above binary64 b ∙ le-ltb infinity (b % sign_bit) h)) tt
+
+-- in an attribute's spelling
+pub ruleset no_nan = (plain-bits)

@@ -115,3 +115,6 @@ negative-root b l h =
   where
     some : (b : ℕ) → sign_bit < b → b < patterns → 0 < b % sign_bit / hidden + b % hidden
     some b l h = omega arith
+
+-- in an attribute's spelling
+pub ruleset normal_roots = (normal-root)

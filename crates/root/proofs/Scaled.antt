@@ -81,9 +81,6 @@ module _ (m e : ℕ) (lo : hidden ≤ m) (hi : m < past53) where
       Code : ℕ → Type 0
       Code b = m * 2 ^ (52 + b) * 4 ≡ m * (1 + b) * past54
 
-  pub code_lt : m * (1 + e % 2) < past54
-  code_lt = elim (parity e) [ inl h ↦ subst (λ (b : ℕ). m * (1 + b) < past54) (sym h) (omega arith) | inr h ↦ subst (λ (b : ℕ). m * (1 + b) < past54) (sym h) (omega arith) ]
-
   pub lead-bounds : Bounds (lead m e * 4)
   lead-bounds = elim (parity e) [
     | inl h ↦ subst (λ (b : ℕ). Bounds (m * 2 ^ (52 + b) * 4)) (sym h) (omega arith, omega arith)
@@ -117,3 +114,6 @@ guess_root m e q lo hi is = ap (λ (x : ℕ). odd 53 false x (e / 2) 1074) (sym 
   where
     quarter : (a n : ℕ) → a * 4 ≡ n * past54 → a ≡ n * hidden
     quarter a n h = omega arith
+
+-- in an attribute's spelling
+pub ruleset as_coded = (code-bounds, code-root)

@@ -59,6 +59,7 @@ fn digits(m: u64) -> u64
         rest: 0,
         left: m,
     };
+    // A count of turns and no index: a digit each.
     for _ in 0..54_u64 {
         p = digit(p);
     }
@@ -68,6 +69,7 @@ fn digits(m: u64) -> u64
 // ---- the root of a significand, rounded
 
 // The float q * 2^k * 2^-1074, for a q of 53 digits.
+#[tactic(auto, using(crate::proofs::Patterns::no_nan, crate::proofs::Patterns::at_normal))]
 fn pack(q: u64, k: u64) -> f64
     requires { (hidden ≤ q) × (q < past53) × (k < 2045) }
     ensures { result ≡ odd 53 false q k 1074 }
@@ -124,6 +126,7 @@ fn is_root(m: u64, e: u64, r: f64) -> bool
 }
 
 // The same root: the guess, if it is the root.
+#[tactic(auto, using(crate::proofs::Scaled::as_coded))]
 fn rounded(m: u64, e: u64, guess: f64) -> f64
     requires { (hidden ≤ m) × (m < past53) × (e < 4090) }
     ensures { result ≡ root_of (m * 2 ^ (e + 52)) }
@@ -156,6 +159,7 @@ fn near(x: f64, b: u64) -> f64
 }
 
 // A positive normal number.
+#[tactic(auto, using(crate::proofs::Roots::normal_roots))]
 fn normal(x: f64, b: u64) -> f64
     requires { (hidden ≤ b) × (b < infinity) }
     ensures { result ≡ root (of_bits binary64 b) }
@@ -164,6 +168,7 @@ fn normal(x: f64, b: u64) -> f64
 }
 
 // A positive subnormal number, moved up to 53 digits; the guess is at 2^54 times the root.
+#[tactic(auto, using(crate::proofs::Shift::shifted, crate::proofs::Patterns::no_nan, crate::proofs::Roots::subnormal_root))]
 fn subnormal(b: u64) -> f64
     requires { (0 < b) × (b < hidden) }
     ensures { result ≡ root (of_bits binary64 b) }

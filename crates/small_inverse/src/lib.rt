@@ -37,6 +37,7 @@ fn over(x: f64) -> Result<f64, Refusal>
 }
 
 // The inverse of a matrix of one cell, as a number. Refused as singular: no pivot.
+#[tactic(auto, using(crate::proofs::Two::inv_number_is))]
 pub fn inverse_number(x: f64) -> Result<f64, Refusal>
     ensures { result ≡ inv_number x }
 {
@@ -44,6 +45,7 @@ pub fn inverse_number(x: f64) -> Result<f64, Refusal>
 }
 
 // The right part in the end, of rows whose left part's first cell is the first column's pivot.
+#[tactic(auto, using(crate::proofs::Two::diagonal_is))]
 fn diagonal_two(left: [[f64; 2]; 2], right: [[f64; 2]; 2]) -> Result<[[f64; 2]; 2], Refusal>
     ensures { result ≡ from_diagonal left right }
 {
@@ -59,6 +61,7 @@ fn diagonal_two(left: [[f64; 2]; 2], right: [[f64; 2]; 2]) -> Result<[[f64; 2]; 
 
 // The inverse of the rows (a, b) and (c, d). The rows are exchanged number by number, and the rest stands once: that is short
 // enough to be inlined.
+#[tactic(auto, using(crate::proofs::Two::exchange_two))]
 pub fn inverse_two(a: f64, b: f64, c: f64, d: f64) -> Result<[[f64; 2]; 2], Refusal>
     ensures { result ≡ inv_of 2 (two_by_two a b c d) }
 {

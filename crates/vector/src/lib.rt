@@ -91,6 +91,7 @@ pub fn vec_scale(a: [f64; 4], n: usize, s: f64) -> Result<[f64; 4], Refusal>
 
 // ---- sums
 
+#[tactic(auto, using(crate::proofs::Sized::dots))]
 pub fn vec_dot(a: [f64; 4], n: usize, b: [f64; 4], m: usize) -> Result<f64, Refusal>
     ensures { result ≡ where_sized (paired n m) (dot n (cut n a) (cut n b)) }
 {
@@ -98,6 +99,7 @@ pub fn vec_dot(a: [f64; 4], n: usize, b: [f64; 4], m: usize) -> Result<f64, Refu
     Ok(kernel::dot(&a, &b, n))
 }
 
+#[tactic(auto, using(crate::proofs::Sized::dots), unfolding(algebra::specs::Matrix::vec_norm))]
 pub fn vec_norm(a: [f64; 4], n: usize) -> Result<f64, Refusal>
     ensures { result ≡ where_sized (sized n) (vec_norm n (cut n a)) }
 {

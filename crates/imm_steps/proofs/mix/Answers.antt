@@ -10,11 +10,6 @@ use Rattle.sizes.proofs.Sizes.{bounds}
 use Rattle.imm_steps.proofs.Mixes.{weights_are, state-turn, covariance-turn, all-turns}
 use Rattle.imm_steps.proofs.mix.Goals as goal
 
-pub loop-j-init : goal.loop-j-init
-loop-j-init c =
-    let e = c.from-models.ensures in
-    (((e, omega (arith, e, bounds c.args.k)), c.all_shares-w.ensures), (filling-none _ _ _ _, filling-none _ _ _ _))
-
 pub loop-j-preserved : goal.loop-j-preserved
 loop-j-preserved c =
     let v = c.loop-j.invariant in

@@ -11,11 +11,6 @@ use Rattle.sizes.proofs.Sizes.{bounds}
 use Rattle.imm_steps.proofs.Banks.{covariance-used, row-used}
 use Rattle.imm_steps.proofs.mixed_covariance.Goals as goal
 
-pub loop-r-init : goal.loop-r-init
-loop-r-init c =
-    let e = c.from-rows.ensures in
-    ((e, omega (arith, e, bounds c.args.n)), rows_none _ _)
-
 pub loop-r-preserved : goal.loop-r-preserved
 loop-r-preserved c =
     let v = c.loop-r.invariant in

@@ -13,9 +13,6 @@ use Rattle.sizes.proofs.Sizes.{bounds}
 use Rattle.mixing.specs.Mixing.{uniform}
 use Rattle.imm_steps.proofs.uniform.Goals as goal
 
-pub overflow_cast-models : goal.overflow_cast-models
-overflow_cast-models c = omega (arith, c.from-models.ensures, bounds c.args.k)
-
 pub returns : goal.returns
 unfolding uniform
 returns c =

@@ -5,7 +5,7 @@ use Rattle.algebra.specs.Array.{cut, used}
 use Rattle.matrix.specs.Result.{as_matrix}
 use Rattle.matrix.proofs.Results.{size_given, if_answered}
 use Rattle.sizes.specs.Size.{count}
-use Rattle.small_inverse.proofs.Exits.{exit}
+use Rattle.answer.proofs.Exits.{exit}
 use Rattle.inverse.proofs.Elimination.{inv_at, inv-read}
 use Rattle.inverse.proofs.inv.Goals as goal
 

@@ -16,6 +16,3 @@ loop-i-preserved c = let v = c.loop-i.invariant in (v.0, summing_more v.1 (omega
 pub returns-after-loop-i : goal.returns-after-loop-i
 unfolding dot
 returns-after-loop-i c = let v = c.loop-i.invariant in summing_all v.1 (omega arith) ∙ sym (cond-true _ _ (le-leb _ 4 v.0))
-
-pub returns-else-n-le4 : goal.returns-else-n-le4
-returns-else-n-le4 c = sym (cond-false _ _ (lt-leb _ 4 c.if-n-le4.false))

@@ -5,9 +5,6 @@ use Rattle.answer.proofs.Tables.{filling-none, filling-more, filling-all}
 use native.Mathlib.Omega.{arith}
 use Rattle.kernel.proofs.to_flat.Goals as goal
 
-pub loop-n-init : goal.loop-n-init
-loop-n-init c = filling-none _ _ _ _
-
 pub loop-n-preserved : goal.loop-n-preserved
 loop-n-preserved c = filling-more c.loop-n.invariant (omega arith) (omega arith) refl
 

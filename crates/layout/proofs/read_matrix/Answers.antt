@@ -4,10 +4,13 @@ use Prim.Native.Nat.{ℕ, ◌+◌, ◌*◌}
 use native.Mathlib.Omega.{arith}
 use Rattle.answer.specs.Table.{table}
 use Rattle.algebra.specs.Array.{pad}
-use Rattle.algebra.proofs.Arrays.{rows_all}
+use Rattle.algebra.proofs.Arrays.{rows_more, rows_all}
 use Rattle.sizes.specs.Size.{count}
 use Rattle.layout.specs.Layout.{vector_at}
 use Rattle.layout.proofs.read_matrix.Goals as goal
+
+pub loop-i-preserved : goal.loop-i-preserved
+loop-i-preserved c = let v = c.loop-i.invariant in (v.0, rows_more v.1 v.0 (omega arith) c.read_vector.ensures)
 
 pub returns : goal.returns
 returns c =

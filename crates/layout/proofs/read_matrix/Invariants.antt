@@ -1,5 +1,5 @@
 -- What the loop of `read_matrix` keeps.
-use Prim.Native.Nat.{◌+◌, ◌*◌, ◌-◌, ◌≤◌}
+use Prim.Native.Nat.{◌+◌, ◌*◌, ◌≤◌}
 use Rattle.algebra.proofs.Arrays.{Rows}
 use Rattle.sizes.specs.Size.{count}
 use Rattle.layout.specs.Layout.{vector_at}

@@ -1,5 +1,5 @@
 -- What the loop of `write_matrix` keeps.
-use Prim.Native.Nat.{◌-◌, ◌≤◌}
+use Prim.Native.Nat.{◌≤◌}
 use Rattle.algebra.specs.Matrix.{row}
 use Rattle.sizes.specs.Size.{front}
 use Rattle.layout.proofs.Loops.{Putting}

@@ -9,7 +9,4 @@ use Rattle.rows.proofs.row_product_transposed.Goals as goal
 pub returns : goal.returns
 unfolding row_times_transposed
 returns c =
-    let d = c.before in
-    let b = d.before.before in
-    let a = b.args in
-    combination_is a.v (λ t. table 4 (λ j. cell a.b.now j t)) _ (bounds a.k).most b.column.ensures b.column-2.ensures d.column-3.ensures d.column-4.ensures c.combination.ensures
+    combination_is c.args.v (λ t. table 4 (λ j. cell c.args.b.now j t)) _ (bounds c.args.k).most c.column.ensures c.column-2.ensures c.column-3.ensures c.column-4.ensures c.combination.ensures

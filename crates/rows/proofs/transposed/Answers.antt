@@ -10,11 +10,7 @@ use Rattle.rows.proofs.transposed.Goals as goal
 
 pub returns : goal.returns
 returns c =
-    let c3 = c.before in
-    let c2 = c3.before in
-    let c1 = c2.before in
-    let c0 = c1.before in
-    let x = c0.args in
+    let x = c.args in
     c.leading_rows.ensures
-    ∙ (λ i. pad (part x.c x.r (c0.column.ensures i ∷ c1.column-2.ensures i ∷ c2.column-3.ensures i ∷ c3.column-4.ensures i ∷ [])))
+    ∙ (λ i. pad (part x.c x.r (c.column.ensures i ∷ c.column-2.ensures i ∷ c.column-3.ensures i ∷ c.column-4.ensures i ∷ [])))
     ∙ ap pad (used-mat _ _ (λ i j. cell x.a.now j i) (bounds x.c).most (bounds x.r).most ∙ sym (transpose-used _ _ _))
