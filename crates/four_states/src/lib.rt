@@ -1,5 +1,5 @@
-// Four states, written out, with four measurements or two: the parts of a step that store a product of matrices. With the sizes
-// at hand a compiler leaves out their tests and takes two numbers at a time, which is quicker than row by row.
+// Four states, written out, with four measurements or two: the parts of a step that make a matrix. With the sizes at hand a compiler
+// leaves out their tests and takes two numbers at a time, which is quicker than a loop over the rows.
 #![tactic(auto)]
 
 ghost use Rattle.std.specs.Prelude.{◌≡◌};
@@ -44,6 +44,38 @@ pub fn propagated<'a>(
     ensures { result ≡ pad (propagated_of 4 4 (used 4 4 a.now) (used 4 4 p.now) (used 4 4 q.now)) }
 {
     spread(&product(a, p), a, q)
+}
+
+// A P Aᵀ + Q, for an A of two rows
+pub fn propagated_two<'a>(
+    a: &'a [[f64; 4]; 4],
+    p: &'a [[f64; 4]; 4],
+    q: &'a [[f64; 4]; 4],
+) -> [[f64; 4]; 4]
+    ensures { result ≡ pad (propagated_of 2 4 (used 2 4 a.now) (used 4 4 p.now) (used 2 2 q.now)) }
+{
+    let ap0 = rows::row_product(a[0], p, Size::Four);
+    let ap1 = rows::row_product(a[1], p, Size::Four);
+    let s0 = rows::row_sum(rows::row_product_transposed(ap0, a, Size::Four), q[0]);
+    let s1 = rows::row_sum(rows::row_product_transposed(ap1, a, Size::Four), q[1]);
+    let r0 = rows::leading(s0, Size::Two);
+    let r1 = rows::leading(s1, Size::Two);
+    [r0, r1, [0.0; 4], [0.0; 4]]
+}
+
+// P Hᵀ × W, for an H of two rows
+pub fn gain<'a>(p: &'a [[f64; 4]; 4], h: &'a [[f64; 4]; 4], w: &'a [[f64; 4]; 4]) -> [[f64; 4]; 4]
+    ensures { result ≡ pad (gain_of 4 2 (used 4 4 p.now) (used 2 4 h.now) (used 2 2 w.now)) }
+{
+    let s0 = rows::row_product_transposed(p[0], h, Size::Four);
+    let s1 = rows::row_product_transposed(p[1], h, Size::Four);
+    let s2 = rows::row_product_transposed(p[2], h, Size::Four);
+    let s3 = rows::row_product_transposed(p[3], h, Size::Four);
+    let r0 = rows::leading(rows::row_product(s0, w, Size::Two), Size::Two);
+    let r1 = rows::leading(rows::row_product(s1, w, Size::Two), Size::Two);
+    let r2 = rows::leading(rows::row_product(s2, w, Size::Two), Size::Two);
+    let r3 = rows::leading(rows::row_product(s3, w, Size::Two), Size::Two);
+    [r0, r1, r2, r3]
 }
 
 // P Hᵀ × W, for an H of four rows

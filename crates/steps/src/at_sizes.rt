@@ -35,6 +35,7 @@ pub fn propagated<'a>(
     ensures { result ≡ pad (propagated_of (count r) (count n) (part r n a.now) (part n n p.now) (part r r q.now)) }
 {
     let mut out = [[0.0; 4]; 4];
+    // The index is a row of A, of Q and of what is made.
     for i in 0..usize::from(r) {
         let ap = rows::row_product(a[i], p, n);
         let apat = rows::row_product_transposed(ap, a, n);
@@ -68,6 +69,7 @@ pub fn gain<'a>(
     ensures { result ≡ pad (gain_of (count n) (count m) (part n n p.now) (part m n h.now) (part m m w.now)) }
 {
     let mut out = [[0.0; 4]; 4];
+    // The index is a row of P and of what is made.
     for i in 0..usize::from(n) {
         let pht = rows::row_product_transposed(p[i], h, n);
         out[i] = rows::leading(rows::row_product(pht, w, m), m);

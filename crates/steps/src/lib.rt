@@ -11,44 +11,24 @@ ghost use Rattle.filtering.specs.Filter.{predicted_state, propagated as propagat
 ghost use Rattle.steps.specs.Step.{well_sized, fitting, motion_rows, predict_rows, update_rows};
 
 use answer::Refusal;
-use sizes::{Size, both, size_of};
+use sizes::{Size, is_size, size_of};
 
 mod at_sizes;
 pub mod four;
 
-// ---- the sizes of a filter
+// ---- the sizes of n states, m measurements and i inputs, by their type
 
-// All sizes are 1 to 4.
+// All are 1 to 4.
 #[tactic(auto, unfolding(crate::specs::Step::well_sized))]
-pub fn is_well_sized(n: usize, m: usize, i: usize) -> bool
-    ensures { result ≡ well_sized n m i }
+pub fn sized(n: usize, m: usize, i: usize) -> Result<(Size, Size, Size), Refusal>
+    ensures { result ≡ where_sized (well_sized n m i) (size_of n, size_of m, size_of i) }
 {
-    both(
-        sizes::is_size(n),
-        both(sizes::is_size(m), sizes::is_size(i)),
-    )
+    sizes::fits(is_size(n) & (is_size(m) & is_size(i)))?;
+    Ok((size_of(n), size_of(m), size_of(i)))
 }
 
 // And the k numbers that come with a call are as many as are asked for.
 #[tactic(auto, unfolding(crate::specs::Step::fitting))]
-pub fn is_fitting(n: usize, m: usize, i: usize, asked: usize, k: usize) -> bool
-    ensures { result ≡ fitting n m i asked k }
-{
-    both(is_well_sized(n, m, i), asked == k)
-}
-
-// The sizes of n states, m measurements and i inputs, by their type.
-pub fn sized(n: usize, m: usize, i: usize) -> Result<(Size, Size, Size), Refusal>
-    ensures { result ≡ where_sized (well_sized n m i) (size_of n, size_of m, size_of i) }
-{
-    if is_well_sized(n, m, i) {
-        Ok((size_of(n), size_of(m), size_of(i)))
-    } else {
-        Err(Refusal::WrongSize)
-    }
-}
-
-// The same, for a call that comes with k numbers.
 pub fn fitted(
     n: usize,
     m: usize,
@@ -58,11 +38,9 @@ pub fn fitted(
 ) -> Result<(Size, Size, Size), Refusal>
     ensures { result ≡ where_sized (fitting n m i asked k) (size_of n, size_of m, size_of i) }
 {
-    if is_fitting(n, m, i, asked, k) {
-        Ok((size_of(n), size_of(m), size_of(i)))
-    } else {
-        Err(Refusal::WrongSize)
-    }
+    let by_type = sized(n, m, i)?;
+    sizes::fits(asked == k)?;
+    Ok(by_type)
 }
 
 // ---- the parts
@@ -165,6 +143,7 @@ pub fn corrected_covariance<'a>(
 {
     let e = kernel::identity_rows();
     let mut out = [[0.0; 4]; 4];
+    // The index is a row of the gain, of the identity and of what is made.
     for i in 0..usize::from(n) {
         let kh = rows::row_product(k[i], h, m);
         let rest = rows::row_difference(e[i], kh);

@@ -12,13 +12,10 @@ use Rattle.four_states.proofs.gain_four.Goals as goal
 pub returns : goal.returns
 unfolding gain
 returns c =
-    let s3 = c.before.before in
-    let s2 = s3.before.before in
-    let s1 = s2.before.before in
-    let s0 = s1.before.before in
-    let x = s0.args in
-    let r0 = across_row Four Four x.p.now x.h.now (omega arith) s0.row_product_transposed-s0.ensures in
-    let r1 = across_row Four Four x.p.now x.h.now (omega arith) s1.row_product_transposed-s1.ensures in
-    let r2 = across_row Four Four x.p.now x.h.now (omega arith) s2.row_product_transposed-s2.ensures in
-    let r3 = across_row Four Four x.p.now x.h.now (omega arith) s3.row_product_transposed-s3.ensures in
-    c.product.ensures ∙ λ i. pad (mul 4 4 4 (rows-used (shape-mul 4 4 4 _ _) r0 r1 r2 r3 i) (used 4 4 x.w.now))
+    let p = c.args.p.now in
+    let h = c.args.h.now in
+    let r0 = across_row Four Four p h (omega arith) c.row_product_transposed-s0.ensures in
+    let r1 = across_row Four Four p h (omega arith) c.row_product_transposed-s1.ensures in
+    let r2 = across_row Four Four p h (omega arith) c.row_product_transposed-s2.ensures in
+    let r3 = across_row Four Four p h (omega arith) c.row_product_transposed-s3.ensures in
+    c.product.ensures ∙ λ i. pad (mul 4 4 4 (rows-used (shape-mul 4 4 4 _ _) r0 r1 r2 r3 i) (used 4 4 c.args.w.now))

@@ -13,12 +13,10 @@ use Rattle.four_states.proofs.product.Goals as goal
 
 pub returns : goal.returns
 returns c =
-    let l2 = c.before.before.before in
-    let l1 = l2.before.before.before in
-    let l0 = l1.before.before.before in
-    let x = l0.args in
-    let r0 = product-row Four Four Four x.a.now x.b.now (omega arith) l0.row_product.ensures l0.leading-r0.ensures in
-    let r1 = product-row Four Four Four x.a.now x.b.now (omega arith) l1.row_product-2.ensures l1.leading-r1.ensures in
-    let r2 = product-row Four Four Four x.a.now x.b.now (omega arith) l2.row_product-3.ensures l2.leading-r2.ensures in
-    let r3 = product-row Four Four Four x.a.now x.b.now (omega arith) c.row_product-4.ensures c.leading-r3.ensures in
-    rows_at 4 _ (row (mul 4 4 4 (used 4 4 x.a.now) (used 4 4 x.b.now))) refl (λ i. r0 i ∷ r1 i ∷ r2 i ∷ r3 i ∷ []) (rows_are (shape-mul 4 4 4 _ _))
+    let a = c.args.a.now in
+    let b = c.args.b.now in
+    let r0 = product-row Four Four Four a b (omega arith) c.row_product.ensures c.leading-r0.ensures in
+    let r1 = product-row Four Four Four a b (omega arith) c.row_product-2.ensures c.leading-r1.ensures in
+    let r2 = product-row Four Four Four a b (omega arith) c.row_product-3.ensures c.leading-r2.ensures in
+    let r3 = product-row Four Four Four a b (omega arith) c.row_product-4.ensures c.leading-r3.ensures in
+    rows_at 4 _ (row (mul 4 4 4 (used 4 4 a) (used 4 4 b))) refl (λ i. r0 i ∷ r1 i ∷ r2 i ∷ r3 i ∷ []) (rows_are (shape-mul 4 4 4 _ _))

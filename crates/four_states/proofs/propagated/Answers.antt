@@ -10,7 +10,6 @@ use Rattle.four_states.proofs.propagated.Goals as goal
 pub returns : goal.returns
 unfolding propagated
 returns c =
-    let s = c.before.before in
-    let x = s.args in
-    let is = ap (used 4 4) s.product.ensures ∙ used-pad 4 4 _ (shape-mul 4 4 4 (used 4 4 x.a.now) (used 4 4 x.p.now)) in
+    let x = c.args in
+    let is = ap (used 4 4) c.product.ensures ∙ used-pad 4 4 _ (shape-mul 4 4 4 (used 4 4 x.a.now) (used 4 4 x.p.now)) in
     c.spread.ensures ∙ λ i. pad (add 4 4 (mul 4 4 4 (is i) (transpose 4 4 (used 4 4 x.a.now))) (used 4 4 x.q.now))

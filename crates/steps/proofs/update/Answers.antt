@@ -4,7 +4,7 @@ use Rattle.algebra.specs.Inverse.{inv}
 use Rattle.algebra.proofs.Inverses.{inv-shape}
 use Rattle.sizes.specs.Size.{count}
 use Rattle.matrix.proofs.Results.{was_answered, was_refused}
-use Rattle.small_inverse.proofs.Exits.{exit}
+use Rattle.answer.proofs.Exits.{exit}
 use Rattle.steps.proofs.Ways.{S, inversion, when_answered, when_refused}
 use Rattle.steps.proofs.update.Goals as goal
 
