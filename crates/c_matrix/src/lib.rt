@@ -1,5 +1,5 @@
 // src/core/matrix.rs and scalar.rs on slices that the caller lends; what the calls share is in `c_slices`.
-// The numbers of refusals are those of the C interface.
+// "Refused with 1" names a refusal by its number in docs/REFUSALS.md.
 #![tactic(auto)]
 
 pub mod cells;

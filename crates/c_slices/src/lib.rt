@@ -1,58 +1,68 @@
-// For calls on slices that the caller lends: the test of sizes and lengths, and the ways out. A call reads numbers and slices,
-// writes into a lent place, and returns document 01's number, 0 for an answer, as the C interface has it; a refusal writes nothing.
+// For calls on slices that the caller lends: the sizes of a slice of the right length, what it holds, and the ways out. A call
+// reads numbers and slices and writes into a lent place; a refusal goes up by `?`, and writes nothing.
 #![tactic(auto)]
 
-ghost use Rattle.std.specs.Prelude.{◌≡◌, true, length};
-ghost use Rattle.answer.specs.Told.{given};
-ghost use Rattle.algebra.specs.Array.{used};
-ghost use Rattle.c_slices.specs.Slices.{is_matrix, rows};
+ghost use Rattle.std.specs.Prelude.{◌≡◌, ◌*◌, length};
+ghost use Rattle.answer.specs.Answer.{where_sized};
+ghost use Rattle.answer.specs.Told.{written};
+ghost use Rattle.sizes.specs.Size.{count, size_of, part};
+ghost use Rattle.c_slices.specs.Slices.{is_matrix, is_vector, rows};
 ghost use Rattle.c_slices.specs.Told.{matrix_told};
 
 use answer::Refusal;
-use sizes::{is_shape, size_of};
+use sizes::{Size, fits, shape};
 
-// A slice of len numbers is just r rows of c numbers; a vector of n numbers is a column, n rows of one.
+// ---- the sizes that a call is given, by their type, where a slice of len numbers has them
+
+// Just r rows of c numbers.
+#[inline(always)]
 #[tactic(auto, unfolding(crate::specs::Slices::is_matrix))]
-pub fn is_matrix(r: usize, c: usize, len: usize) -> bool
-    ensures { result ≡ is_matrix r c len }
+pub fn matrix(r: usize, c: usize, len: usize) -> Result<(Size, Size), Refusal>
+    ensures { result ≡ where_sized (is_matrix r c len) (size_of r, size_of c) }
 {
-    is_shape(r, c) && len == r * c
+    let (rows, cols) = shape(r, c)?;
+    fits(len == r * c)?;
+    Ok((rows, cols))
 }
 
-// ---- for the functions by value: what a slice holds, and a result into a lent place, where they have passed the test
-
-pub fn rows_in(a: &[f64], r: usize, c: usize) -> [[f64; 4]; 4]
-    ensures { is_matrix r c (length a.now) ≡ true → used r c result ≡ rows r c a.now }
+// A vector of n numbers: a column, n rows of one.
+#[inline(always)]
+pub fn vector(n: usize, len: usize) -> Result<Size, Refusal>
+    ensures { result ≡ where_sized (is_vector n len) (size_of n) }
 {
-    layout::matrix_at(a, 0, size_of(r), size_of(c))
+    let (size, _) = matrix(n, 1, len)?;
+    Ok(size)
 }
 
-// The number that is told; a refusal writes nothing.
-pub fn give<T: Copy>(out: &mut T, answer: Result<T, Refusal>) -> u8
-    ensures { (result, out.new) ≡ given out.old answer }
+// ---- what a slice holds, and an answer into a lent place
+
+// The r rows and c columns of a, which has just so many numbers.
+#[inline(always)]
+pub fn rows_in(a: &[f64], r: Size, c: Size) -> [[f64; 4]; 4]
+    ensures { length a.now ≡ count r * count c → part r c result ≡ rows (count r) (count c) a.now }
 {
-    match answer {
-        Ok(x) => {
-            *out = x;
-            0
-        }
-        Err(refusal) => u8::from(refusal),
-    }
+    layout::matrix_at(a, 0, r, c)
 }
 
+// What is answered; a refusal writes nothing, here as in give_matrix.
+#[inline(always)]
+pub fn give<T: Copy>(out: &mut T, answer: Result<T, Refusal>) -> Result<(), Refusal>
+    ensures { (result, out.new) ≡ written out.old answer }
+{
+    *out = answer?;
+    Ok(())
+}
+
+// The r rows and c columns that are answered, into a place of just so many numbers.
+#[inline(always)]
 pub fn give_matrix(
     out: &mut [f64],
     answer: Result<[[f64; 4]; 4], Refusal>,
-    r: usize,
-    c: usize,
-) -> u8
-    ensures { is_matrix r c (length out.old) ≡ true → (result, out.new) ≡ given out.old (matrix_told r c answer) }
+    r: Size,
+    c: Size,
+) -> Result<(), Refusal>
+    ensures { length out.old ≡ count r * count c → (result, out.new) ≡ written out.old (matrix_told (count r) (count c) answer) }
 {
-    match answer {
-        Ok(rows) => {
-            layout::put_matrix(out, 0, &rows, size_of(r), size_of(c));
-            0
-        }
-        Err(refusal) => u8::from(refusal),
-    }
+    layout::put_matrix(out, 0, &answer?, r, c);
+    Ok(())
 }

@@ -1,10 +1,10 @@
 -- `matrix_vec_norm` meets its contract.
 use Rattle.algebra.specs.Matrix.{vec_norm}
-use Rattle.c_slices.proofs.Ways.{one_of, value_handed}
+use Rattle.c_slices.proofs.Ways.{whole_vector, read_vector, value_handed}
 use Rattle.c_vector.proofs.matrix_vec_norm.Goals as goal
 
-pub returns-then-is_matrix : goal.returns-then-is_matrix
-returns-then-is_matrix c =
+pub returns : goal.returns
+returns c =
     let a = c.args in
-    let w = one_of a.n 1 a.v.now c.is_matrix.ensures c.if-is_matrix.true in
-    value_handed _ w.is w.rows (λ i. vec_norm a.n (c.numbers_in-x.ensures w.is i)) c.vec_norm.ensures c.give.ensures
+    let v = whole_vector a.n a.v.now c.vector.ensures c.in_ok-size.was in
+    value_handed _ v.is v.size (λ i. vec_norm a.n (read_vector v v.rows _ c.numbers_in.ensures i)) c.vec_norm.ensures c.give.ensures

@@ -1,11 +1,9 @@
--- `numbers_in` meets its contract.
-use mathlib.Core.Path.{sym, ◌∙◌}
-use Rattle.algebra.specs.Array.{cut}
-use Rattle.c_slices.proofs.Ways.{whole_of, rows_at, vector_in_lem}
+-- `numbers_in` meets its contract: the slice has just these numbers.
+use mathlib.Core.Path.{refl, ◌∙◌}
+use native.Mathlib.Omega.{arith}
+use Rattle.layout.proofs.Calls.{vector-used}
+use Rattle.layout.proofs.Rows.{whole-vector}
 use Rattle.c_vector.proofs.numbers_in.Goals as goal
 
 pub returns : goal.returns
-returns c e =
-    let w = whole_of _ 1 c.args.v.now e in
-    let N = rows_at w c.size_of.ensures in
-    sym (λ i. cut (N i) c.vector_at.result) ∙ vector_in_lem w N c.vector_at.ensures
+returns c e = vector-used 0 _ refl (omega (arith, e)) c.vector_at.ensures ∙ whole-vector _ _ e

@@ -1,14 +1,17 @@
 -- `pairwise` meets its contract.
+use mathlib.Core.Bool.{◌&&◌}
 use Rattle.answer.proofs.Tables.{length-table}
 use Rattle.rows.specs.Row.{pairwise}
-use Rattle.c_slices.proofs.Ways.{rows_at, three_of, vector_in_lem, vector-made}
+use Rattle.c_slices.proofs.Ways.{whole_vector, numbers, seen_vector, vector-made}
 use Rattle.c_vector.proofs.pairwise.Goals as goal
 
-pub returns-then-whole : goal.returns-then-whole
-returns-then-whole g c =
+pub returns : goal.returns
+returns g c =
     let a = c.args in
-    let w = three_of a.n 1 a.v.now a.n 1 a.w.now a.n 1 a.out.now c.is_matrix.ensures c.is_matrix-2.ensures c.is_matrix-3.ensures c.if-whole.true in
-    let N = rows_at w.last c.size_of-s.ensures in
-    vector-made w.passed w.last N
-    (λ i. pairwise g.O.Operation.op (N i) (vector_in_lem w.first N c.vector_at-x.ensures i) (vector_in_lem w.second N c.vector_at-y.ensures i))
+    let v = whole_vector a.n a.v.now c.vector.ensures c.in_ok-size.was in
+    let w = whole_vector a.n a.w.now c.vector-2.ensures c.in_ok-vector.was in
+    let o = whole_vector a.n a.out.now c.vector-3.ensures c.in_ok-vector-2.was in
+    let N = v.rows in
+    vector-made a.out.now (λ i. v.is i && (w.is i && o.is i)) (numbers o) N
+    (λ i. pairwise g.O.Operation.op (N i) (seen_vector v N _ c.numbers_in-x.ensures i) (seen_vector w N _ c.numbers_in-y.ensures i))
     (length-table _ _) c.pairwise.ensures c.put_vector.ensures

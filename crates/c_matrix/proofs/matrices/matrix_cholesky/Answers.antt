@@ -1,41 +1,16 @@
 -- `matrix_cholesky` meets its contract.
-use mathlib.Core.Path.{sym, ap, ◌∙◌}
-use Prim.Native.Nat.{ℕ, ◌*◌}
-use native.Mathlib.Omega.{arith}
+use mathlib.Core.Bool.{◌&&◌}
 use Rattle.algebra.specs.Cholesky.{cholesky}
 use Rattle.algebra.proofs.Factors.{shape-cholesky}
-use Rattle.sizes.specs.Size.{count}
-use Rattle.sizes.proofs.Sizes.{bounds, bounds_of}
-use Rattle.c_slices.specs.Slices.{rows}
-use Rattle.c_matrix.proofs.Products.{rows_in}
-use Rattle.c_slices.proofs.Ways.{Two, two_of, rows_at, answer-handed}
-use Rattle.c_matrix.proofs.matrices.matrix_cholesky.Lts as lts
-use Rattle.c_matrix.proofs.matrices.matrix_cholesky.Tie as tie
-use Rattle.c_matrix.proofs.matrices.matrix_cholesky.Reads as reads
+use Rattle.sizes.proofs.Sizes.{bounds}
+use Rattle.c_slices.proofs.Ways.{whole, seen, answer-handed}
 use Rattle.c_matrix.proofs.matrices.matrix_cholesky.Goals as goal
 
-abbrev Then-whole : Type 0
-Then-whole = lts.Then1 tie.the-claims reads.Pre reads.Post
-
--- the two slices, whole
-whole : (t : Then-whole) → let a = t.args in Two a.n a.n a.a.now a.n a.n a.out.now
-whole t =
-    let a = t.args in
-    two_of a.n a.n a.a.now a.n a.n a.out.now t.is_matrix.ensures t.is_matrix-2.ensures t.if-whole.true
-
-pub returns-then-whole : goal.returns-then-whole
-returns-then-whole c =
-    let w = whole c.before.before.before.before.before.before.before.before.before.before.before.before in
+pub returns : goal.returns
+returns c =
     let a = c.args in
-    let N = rows_at w.first c.size_of-s.ensures in
-    let n = count c.size_of-s.result in
-    let read = rows_in n n a.n a.a.now (bounds c.size_of-s.result).most (sym N) (w.first.long ∙ sym (ap (λ (k : ℕ). k * k) N))
-    c.vector_at-r0.ensures c.vector_at-r1.ensures c.vector_at-r2.ensures c.vector_at-r3.ensures in
-    answer-handed w.passed w.last (ap (cholesky n) read ∙ λ i. cholesky (N i) (rows (N i) (N i) a.a.now))
+    let w = whole a.n a.n a.a.now c.matrix.ensures c.in_ok-size.was in
+    let o = whole a.n a.n a.out.now c.matrix-2.ensures c.in_ok-matrix.was in
+    answer-handed a.out.now (λ i. w.is i && o.is i) o.long w.rows w.rows
+    (λ i. cholesky (w.rows i) (seen w w.rows w.rows _ (c.four_rows-x.ensures _ (bounds _).most) i))
     (λ B. shape-cholesky _ _ B) c.factor_of.ensures c.give_matrix.ensures
-
-pub overflow_mul-n : goal.overflow_mul-n
-overflow_mul-n c = omega (arith, bounds_of _ (whole c.before.before.before.before).first.rows)
-
-pub overflow_mul-n-then-whole : goal.overflow_mul-n-then-whole
-overflow_mul-n-then-whole c = omega (arith, bounds_of _ (whole c.before.before.before.before.before).first.rows)

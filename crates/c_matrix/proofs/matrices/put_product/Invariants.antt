@@ -1,6 +1,4 @@
 -- What the loop of `put_product` keeps.
-use mathlib.Core.List.{[], ◌∷◌}
-use Prim.Native.Nat.{◌-◌}
 use Rattle.algebra.specs.Array.{used}
 use Rattle.sizes.specs.Size.{count}
 use Rattle.layout.specs.Layout.{matrix_at}
@@ -10,7 +8,4 @@ use Rattle.c_matrix.proofs.matrices.put_product.Given as goal
 
 abbrev pub invariant-loop-i : goal.invariant-loop-i
 invariant-loop-i l =
-    Putting 0 l.width (product_row (count l.k) (count l.c) (matrix_at l.height (count l.k) l.a 0) (used (count l.k) (count l.c) (l.b0 ∷ l.b1 ∷ l.b2 ∷ l.b3 ∷ []))) l.initial.out l.height l.i l.out
-
-abbrev pub decreases-loop-i : goal.decreases-loop-i
-decreases-loop-i l = l.height - l.i
+    Putting 0 (count l.c) (product_row (count l.k) (count l.c) (matrix_at (count l.fn.r) (count l.k) l.a 0) (used (count l.k) (count l.c) l.m)) l.initial.out (count l.fn.r) l.i l.out
