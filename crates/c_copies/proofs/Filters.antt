@@ -1,161 +1,181 @@
--- A filter in a slice: what its tests say, and that a step on the rows that were read is the step on the slice. Assumes nothing.
-use mathlib.Core.Path.{◌≡◌, refl, sym, ap, ap₂, ◌∙◌}
+-- A filter in a slice, for any noise: what its tests say where they are passed, and how its parts are put one after another. Assumes nothing.
+use mathlib.Core.Path.{◌≡◌, refl, sym, ap, ◌∙◌}
 use mathlib.Core.List.{List, [], ◌∷◌}
-use mathlib.Core.Bool.{Bool, true, false, ◌&&◌, cond}
+use mathlib.Core.Bool.{Bool, true, false, ◌&&◌}
 use Prim.Native.Nat.{ℕ, suc, ◌+◌, ◌-◌, ◌*◌, ◌≤◌, ◌<◌}
-use native.Mathlib.Nat.{mul-le-mul}
 use native.Mathlib.Omega.{arith}
 use lib.Dec.{eqb}
 use lib.ListN.{length, get_or, take, drop, length-take, length-drop}
 use lib.Ieee.{Float}
-use borrow.Author.Tests.{eqb-true}
-use Rattle.answer.proofs.Choice.{cond-true, and_left, and_right}
-use Rattle.sizes.specs.Size.{count, size_of}
-use Rattle.sizes.proofs.Sizes.{bounds_of, is_count}
-use Rattle.layout.specs.Layout.{joined, placed, put_at, total, offset, filter_parts}
-use Rattle.layout.proofs.Parts.{Fits, none, more, next-part, all-parts}
-use Rattle.layout.proofs.Places.{placed-whole}
+use borrow.Author.Tests.{eqb-true, eq-eqb}
+use Rattle.std.specs.Prelude.{Ok, Err}
+use Rattle.answer.specs.declared.Refusal.{Refusal}
+use Rattle.answer.specs.declared.Refusal.TheVariants.{WrongSize}
+use Rattle.answer.specs.Answer.{Answer, where_sized}
+use Rattle.answer.proofs.Answers.{differ, same-refusal, passed, passed_is}
+use Rattle.answer.proofs.Choice.{and_left, and_right}
+use Rattle.sizes.specs.Size.{count}
+use Rattle.sizes.proofs.Sizes.{is_count}
+use Rattle.layout.specs.Layout.{Parts, joined, placed, put_at, part_size, total, offset}
+use Rattle.layout.proofs.Parts.{Fits, none, more, next-part, all-parts, part-within}
+use Rattle.layout.proofs.Places.{placed-whole, placed-none, length-placed}
 use Rattle.layout.proofs.Calls.{slice-put}
 use Rattle.steps.specs.Step.{well_sized}
 use Rattle.steps.proofs.Sizes as Sizes
 use Rattle.c_copies.specs.declared.Places.{Places}
-use Rattle.c_copies.specs.Filter.{estimate_place, places_of, is_filter, is_step, is_step_with, is_parts}
+use Rattle.c_copies.specs.Filter.{filter_parts_by, places_by, is_filter_by, is_step_by, is_step_with_by, is_parts_by}
 
--- ---- the products of the sizes are small
-pub record Few (n m i : ℕ) : Type 0 where
-  pub states : n ≤ 4
-  pub measurements : m ≤ 4
-  pub transition : n * n ≤ 16
-  pub input : n * i ≤ 16
-  pub measuring : m * n ≤ 16
-  pub noise : m * m ≤ 16
+-- ---- the test of a length is refused with r
+pub record Unfit (t : Bool) (r : Refusal) : Type 0 where
+  pub fails : t ≡ false
+  pub is : r ≡ WrongSize
 
-pub few_of : (n m i : ℕ) → well_sized n m i ≡ true → Few n m i
-few_of n m i e =
-    let s = Sizes.well_sized_lem n m i e in
-    let N = (bounds_of n s.states).most in
-    let M = (bounds_of m s.measurements).most in
-    record { states = N; measurements = M; transition = mul-le-mul N N; input = mul-le-mul N (bounds_of i s.inputs).most; measuring = mul-le-mul M N; noise = mul-le-mul M M }
+pub unfit_of : {A : Type 0} (t : Bool) (x : A) {r : Refusal} → Err r ≡ where_sized t x → Unfit t r
+unfit_of true x e = absurd (differ e)
+unfit_of false x e = record { fails = refl; is = same-refusal e }
 
--- ---- the places, as the code has them
-pub places_are : (n m i : ℕ) {at : Places} → well_sized n m i ≡ true → at ≡ places_of (count (size_of n)) (count (size_of m)) (count (size_of i)) → at ≡ places_of n m i
-places_are n m i e d =
-    let s = Sizes.well_sized_lem n m i e in
-    d ∙ λ t. places_of (is_count {s = size_of n} s.states refl t) (is_count {s = size_of m} s.measurements refl t) (is_count {s = size_of i} s.inputs refl t)
+-- what a call tells and leaves is K of the refusal, and by its contract H of the test
+pub refused : {X : Type 0} (K : Refusal → X) (H : Bool → X) {t : Bool} {r : Refusal} → Unfit t r → K WrongSize ≡ H false → K r ≡ H t
+refused K H u p = ap K u.is ∙ p ∙ ap H (sym u.fails)
 
--- ---- a slice of k numbers that passed the test of a filter
-pub record Whole (n m i k : ℕ) : Type 0 where
+-- ---- two tests, one after the other
+pub both_passed : {a b : Bool} → a ≡ true → b ≡ true → a && b ≡ true
+both_passed p q = λ t. p t && q t
+
+pub first_unfit : {a : Bool} (b : Bool) {r : Refusal} → Unfit a r → Unfit (a && b) r
+first_unfit b u = record { fails = λ t. u.fails t && b; is = u.is }
+
+pub then_unfit : {a b : Bool} {r : Refusal} → a ≡ true → Unfit b r → Unfit (a && b) r
+then_unfit p u = record { fails = λ t. p t && u.fails t; is = u.is }
+
+-- what `fits` answers
+abbrev pub Tested : Type 0
+Tested = Answer (Unit {0})
+
+pub length_given : {l asked : ℕ} {u : Unit {0}} → ◌≡◌ {A = Tested} (Ok u) (where_sized (eqb l asked) tt) → l ≡ asked
+length_given {l} {asked} e = eqb-true l asked (passed _ _ (sym e))
+
+pub length-unfit : (l : ℕ) {asked other : ℕ} {r : Refusal} → ◌≡◌ {A = Tested} (Err r) (where_sized (eqb l asked) tt) → asked ≡ other → Unfit (eqb l other) r
+length-unfit l {asked} {other} e d = unfit_of (eqb l other) tt (e ∙ ap (λ (z : ℕ). where_sized (eqb l z) tt) d)
+
+-- ---- a slice of k numbers that passed the test of a filter, and the places P that the test gave
+pub record Placed (w : ℕ → ℕ) (n m i k : ℕ) (P : Places) : Type 0 where
   pub sizes : well_sized n m i ≡ true
-  pub few : Few n m i
-  pub long : k ≡ total (filter_parts n m i)
+  pub long : k ≡ total (filter_parts_by w n m i)
+  pub states : count P.n ≡ n
+  pub measurements : count P.m ≡ m
+  pub inputs : count P.i ≡ i
+  pub b : P.b ≡ offset (filter_parts_by w n m i) 1
+  pub h : P.h ≡ offset (filter_parts_by w n m i) 2
+  pub q : P.q ≡ offset (filter_parts_by w n m i) 3
+  pub r : P.r ≡ offset (filter_parts_by w n m i) 4
+  pub x : P.x ≡ offset (filter_parts_by w n m i) 5
+  pub p : P.p ≡ offset (filter_parts_by w n m i) 6
+  pub square : P.square ≡ n * n
+  pub len : P.len ≡ total (filter_parts_by w n m i)
 
-pub whole_of : (n m i k : ℕ) → is_filter n m i k ≡ true → Whole n m i k
-unfolding is_filter
-whole_of n m i k e = record { sizes = and_left _ _ e; few = few_of n m i (and_left _ _ e); long = eqb-true k _ (and_right (well_sized n m i) _ e) }
+pub placed_at : (w : ℕ → ℕ) (n m i k : ℕ) {P : Places} → is_filter_by w n m i k ≡ true → P ≡ places_by w n m i → Placed w n m i k P
+unfolding is_filter_by
+placed_at w n m i k e d =
+    let t = and_left (well_sized n m i) _ e in
+    let s = Sizes.well_sized_lem n m i t in
+    record {
+      sizes = t;
+      long = eqb-true k _ (and_right (well_sized n m i) _ e);
+      states = is_count s.states (ap (λ (z : Places). z.n) d);
+      measurements = is_count s.measurements (ap (λ (z : Places). z.m) d);
+      inputs = is_count s.inputs (ap (λ (z : Places). z.i) d);
+      b = ap (λ (z : Places). z.b) d;
+      h = ap (λ (z : Places). z.h) d;
+      q = ap (λ (z : Places). z.q) d;
+      r = ap (λ (z : Places). z.r) d;
+      x = ap (λ (z : Places). z.x) d;
+      p = ap (λ (z : Places). z.p) d;
+      square = ap (λ (z : Places). z.square) d;
+      len = ap (λ (z : Places). z.len) d;
+    }
 
--- and j numbers beside it
-pub record Step (n m i k asked j : ℕ) : Type 0 where
-  pub whole : Whole n m i k
+-- a call of `filter` gave the places P
+pub record Whole (w : ℕ → ℕ) (n m i k : ℕ) (P : Places) : Type 0 where
+  pub passed : is_filter_by w n m i k ≡ true
+  pub is : P ≡ places_by w n m i
+  pub at : Placed w n m i k P
+
+pub filter_given : (w : ℕ → ℕ) (n m i k : ℕ) {P : Places} → Ok P ≡ where_sized (is_filter_by w n m i k) (places_by w n m i) → Whole w n m i k P
+filter_given w n m i k e =
+    let t = passed _ _ (sym e) in
+    let d = passed_is _ _ (sym e) in
+    record { passed = t; is = d; at = placed_at w n m i k t d }
+
+-- a call of `step` gave them, with j numbers beside the filter
+pub record Step (w : ℕ → ℕ) (n m i k asked j : ℕ) (P : Places) : Type 0 where
+  pub passed : is_step_by w n m i k asked j ≡ true
+  pub at : Placed w n m i k P
   pub same : j ≡ asked
 
-pub step_of : (n m i k asked j : ℕ) → is_step n m i k asked j ≡ true → Step n m i k asked j
-unfolding is_step
-step_of n m i k asked j e = record { whole = whole_of n m i k (and_left _ _ e); same = eqb-true j asked (and_right (is_filter n m i k) _ e) }
+pub step_given : (w : ℕ → ℕ) (n m i k asked j : ℕ) {P : Places} → Ok P ≡ where_sized (is_step_by w n m i k asked j) (places_by w n m i) → Step w n m i k asked j P
+unfolding is_step_by
+step_given w n m i k asked j e =
+    let t = passed _ _ (sym e) in
+    record {
+      passed = t;
+      at = placed_at w n m i k (and_left _ _ t) (passed_is _ _ (sym e));
+      same = eqb-true j asked (and_right (is_filter_by w n m i k) _ t);
+    }
 
--- ---- the tests, as the code makes them
-pub filter-tested : (n m i k : ℕ) {at : Places} {t u : Bool} → at ≡ places_of (count (size_of n)) (count (size_of m)) (count (size_of i)) → u ≡ well_sized n m i
-    → t ≡ u && eqb k at.len → t ≡ is_filter n m i k
-unfolding is_filter
-filter-tested n m i k {at} {t} {u} d p q = q ∙ ap (λ (b : Bool). b && eqb k at.len) p ∙ go (well_sized n m i) refl
-  where
-    go : (b : Bool) → well_sized n m i ≡ b → b && eqb k at.len ≡ b && eqb k (total (filter_parts n m i))
-    go true e = λ j. eqb k (places_are n m i e d j).len
-    go false e = refl
+-- ---- a further test of a length, behind that of a filter or of a step
+module _ (w : ℕ → ℕ) (n m i k : ℕ) where
+  -- n rows of n numbers beside a filter
+  pub square-passed : {l asked : ℕ} → is_filter_by w n m i k ≡ true → asked ≡ n * n → l ≡ asked → is_step_by w n m i k (n * n) l ≡ true
+  unfolding is_step_by
+  square-passed {l} t d e = both_passed t (eq-eqb l (n * n) (e ∙ d))
 
--- a filter and one slice beside it, and then a second slice, of l numbers
-module _ (n m i k asked j more l : ℕ) where
-  pub with-tested : {t u : Bool} → t ≡ is_step n m i k asked j → u ≡ t && eqb l more → u ≡ is_step_with n m i k asked j more l
-  unfolding is_step_with
-  with-tested e d = d ∙ ap (λ (b : Bool). b && eqb l more) e
+  -- the numbers of a second slice beside a step
+  module _ (asked j : ℕ) where
+    pub with-passed : {room l : ℕ} → is_step_by w n m i k asked j ≡ true → l ≡ room → is_step_with_by w n m i k asked j room l ≡ true
+    unfolding is_step_with_by
+    with-passed {room} {l} t e = both_passed t (eq-eqb l room e)
 
-  pub with-step : is_step_with n m i k asked j more l ≡ true → Step n m i k asked j
-  unfolding is_step_with
-  with-step q = step_of n m i k asked j (and_left _ _ q)
+    pub with-unfit : (l : ℕ) {other room : ℕ} {r : Refusal} → is_step_by w n m i k asked j ≡ true → other ≡ room → ◌≡◌ {A = Tested} (Err r) (where_sized (eqb l other) tt)
+        → Unfit (is_step_with_by w n m i k asked j room l) r
+    unfolding is_step_with_by
+    with-unfit l t d e = then_unfit t (length-unfit l e d)
 
-  pub with-room : is_step_with n m i k asked j more l ≡ true → l ≡ more
-  unfolding is_step_with
-  with-room q = eqb-true l more (and_right (is_step n m i k asked j) _ q)
+    pub step-unfit : (room l : ℕ) {r : Refusal} → Err r ≡ where_sized (is_step_by w n m i k asked j) (places_by w n m i) → Unfit (is_step_with_by w n m i k asked j room l) r
+    unfolding is_step_with_by
+    step-unfit room l e = first_unfit (eqb l room) (unfit_of (is_step_by w n m i k asked j) _ e)
 
--- where n rows of n numbers are asked for, as the code counts them
-module _ (n m i k : ℕ) {at : Places} (d : at ≡ places_of (count (size_of n)) (count (size_of m)) (count (size_of i))) where
-  abbrev whole : Bool
-  whole = eqb k (total (filter_parts n m i))
-
-  pub square-step : (l : ℕ) → is_step n m i k at.square l ≡ is_step n m i k (n * n) l
-  unfolding is_step is_filter
-  square-step l = go (well_sized n m i) refl
-    where
-      go : (b : Bool) → well_sized n m i ≡ b → (b && whole) && eqb l at.square ≡ (b && whole) && eqb l (n * n)
-      go true e = λ t. whole && eqb l (places_are n m i e d t).square
-      go false e = refl
-
-  pub square-with : (asked j l : ℕ) → is_step_with n m i k asked j at.square l ≡ is_step_with n m i k asked j (n * n) l
-  unfolding is_step_with is_step is_filter
-  square-with asked j l = go (well_sized n m i) refl
-    where
-      go : (b : Bool) → well_sized n m i ≡ b → ((b && whole) && eqb j asked) && eqb l at.square ≡ ((b && whole) && eqb j asked) && eqb l (n * n)
-      go true e = λ t. (whole && eqb j asked) && eqb l (places_are n m i e d t).square
-      go false e = refl
-
-  pub parts-tested : (a b h q r x p : ℕ) {t : Bool}
-      → t ≡ is_filter n m i k && ((eqb a at.b && (eqb b (at.h - at.b) && eqb h (at.q - at.h))) && ((eqb q at.square && eqb r (at.x - at.r)) && (eqb x n && eqb p at.square)))
-      → t ≡ is_parts n m i k a b h q r x p
-  unfolding is_parts is_filter
-  parts-tested a b h q r x p s = s ∙ go (well_sized n m i) refl
-    where
-      go : (w : Bool) → well_sized n m i ≡ w
-          → (w && whole) && ((eqb a at.b && (eqb b (at.h - at.b) && eqb h (at.q - at.h))) && ((eqb q at.square && eqb r (at.x - at.r)) && (eqb x n && eqb p at.square)))
-          ≡ (w && whole) && ((eqb a (n * n) && (eqb b (n * i) && eqb h (m * n))) && ((eqb q (n * n) && eqb r (m * m)) && (eqb x n && eqb p (n * n))))
-      go false e = refl
-      go true e =
-          let P = places_are n m i e d in
-          let ea : at.b ≡ n * n = omega (arith, ap (λ (z : Places). z.b) P) in
-          let eb : at.h - at.b ≡ n * i = omega (arith, ap (λ (z : Places). z.b) P, ap (λ (z : Places). z.h) P) in
-          let eh : at.q - at.h ≡ m * n = omega (arith, ap (λ (z : Places). z.h) P, ap (λ (z : Places). z.q) P) in
-          let er : at.x - at.r ≡ m * m = omega (arith, ap (λ (z : Places). z.r) P, ap (λ (z : Places). z.x) P) in
-          let es : at.square ≡ n * n = ap (λ (z : Places). z.square) P in
-          λ t. whole && ((eqb a (ea t) && (eqb b (eb t) && eqb h (eh t))) && ((eqb q (es t) && eqb r (er t)) && (eqb x n && eqb p (es t))))
-
--- a test t before a further one
-pub and_tested : (a b : Bool) {t u : Bool} → t ≡ a → t ≡ true → u ≡ b → u ≡ a && b
-and_tested a b p q r = r ∙ sym (ap (λ (x : Bool). x && b) (sym p ∙ q))
-
-pub and_failed : (a b : Bool) {t : Bool} → t ≡ a → t ≡ false → false ≡ a && b
-and_failed a b p q = sym (ap (λ (x : Bool). x && b) (sym p ∙ q))
-
--- ---- slices that are just the parts of a filter of k numbers
-pub record Given (n m i k : ℕ) (a b h q r x p : List Float) : Type 0 where
-  pub whole : Whole n m i k
+-- ---- slices that are just the parts of a filter of k numbers, whose places are P
+pub record Given (w : ℕ → ℕ) (n m i k : ℕ) (P : Places) (a b h q r x p : List Float) : Type 0 where
+  pub passed : is_parts_by w n m i k (length a) (length b) (length h) (length q) (length r) (length x) (length p) ≡ true
+  pub at : Placed w n m i k P
   pub first : length a ≡ n * n
   pub second : length b ≡ n * i
   pub third : length h ≡ m * n
   pub fourth : length q ≡ n * n
-  pub fifth : length r ≡ m * m
+  pub fifth : length r ≡ m * w m
   pub sixth : length x ≡ n
   pub last : length p ≡ n * n
 
-pub given_of : (n m i k : ℕ) (a b h q r x p : List Float) → is_parts n m i k (length a) (length b) (length h) (length q) (length r) (length x) (length p) ≡ true
-    → Given n m i k a b h q r x p
-unfolding is_parts
-given_of n m i k a b h q r x p e =
-    let all = and_right (is_filter n m i k) _ e in
+-- the tests of the parts, as they are defined
+abbrev pub lengths : (ℕ → ℕ) → ℕ → ℕ → ℕ → ℕ → ℕ → ℕ → ℕ → ℕ → ℕ → ℕ → Bool
+lengths w n m i a b h q r x p = (eqb a (n * n) && (eqb b (n * i) && eqb h (m * n))) && ((eqb q (n * n) && eqb r (m * w m)) && (eqb x n && eqb p (n * n)))
+
+pub parts_given : (w : ℕ → ℕ) (n m i k : ℕ) {P : Places} (a b h q r x p : List Float)
+    → Ok P ≡ where_sized (is_parts_by w n m i k (length a) (length b) (length h) (length q) (length r) (length x) (length p)) (places_by w n m i)
+    → Given w n m i k P a b h q r x p
+unfolding is_parts_by
+parts_given w n m i k a b h q r x p o =
+    let e = passed _ _ (sym o) in
+    let all = and_right (is_filter_by w n m i k) _ e in
     let model = and_left _ _ all in
     let rest = and_right (eqb (length a) (n * n) && (eqb (length b) (n * i) && eqb (length h) (m * n))) _ all in
     let noise = and_left _ _ rest in
-    let pair = and_right (eqb (length q) (n * n) && eqb (length r) (m * m)) _ rest in
+    let pair = and_right (eqb (length q) (n * n) && eqb (length r) (m * w m)) _ rest in
     let bh = and_right (eqb (length a) (n * n)) _ model in
     record {
-      whole = whole_of n m i k (and_left _ _ e);
+      passed = e;
+      at = placed_at w n m i k (and_left _ _ e) (passed_is _ _ (sym o));
       first = eqb-true _ _ (and_left _ _ model);
       second = eqb-true _ _ (and_left _ _ bh);
       third = eqb-true _ _ (and_right (eqb (length b) (n * i)) _ bh);
@@ -165,31 +185,64 @@ given_of n m i k a b h q r x p e =
       last = eqb-true _ _ (and_right (eqb (length x) n) _ pair);
     }
 
-pub parts-given : {n m i k : ℕ} {a b h q r x p : List Float} → Given n m i k a b h q r x p → Fits (filter_parts n m i) (a ∷ b ∷ h ∷ q ∷ r ∷ x ∷ p ∷ [])
-parts-given {n} {x = x} g =
+-- the lengths by the places, as the code tests them
+pub lengths-tested : {w : ℕ → ℕ} {n m i k : ℕ} {P : Places} → Placed w n m i k P → (a b h q r x p : ℕ)
+    → (eqb a P.b && (eqb b (P.h - P.b) && eqb h (P.q - P.h))) && ((eqb q P.square && eqb r (P.x - P.r)) && (eqb x n && eqb p P.square)) ≡ lengths w n m i a b h q r x p
+lengths-tested {w} {n} {m} {i} {P = P} A a b h q r x p =
+    let ea : P.b ≡ n * n = omega arith in
+    let eb : P.h - P.b ≡ n * i = omega arith in
+    let eh : P.q - P.h ≡ m * n = omega arith in
+    let er : P.x - P.r ≡ m * w m = omega arith in
+    λ t. (eqb a (ea t) && (eqb b (eb t) && eqb h (eh t))) && ((eqb q (A.square t) && eqb r (er t)) && (eqb x n && eqb p (A.square t)))
+
+pub parts-given : {w : ℕ → ℕ} {n m i k : ℕ} {P : Places} {a b h q r x p : List Float} → Given w n m i k P a b h q r x p
+    → Fits (filter_parts_by w n m i) (a ∷ b ∷ h ∷ q ∷ r ∷ x ∷ p ∷ [])
+parts-given {n = n} {x = x} g =
     let column : length x ≡ n * 1 = omega (arith, g.sixth) in
     more g.first (more g.second (more g.third (more g.fourth (more g.fifth (more column (more g.last none))))))
 
--- part j is put behind those before it: f₁ has them in front of what f held
-module _ {n m i k : ℕ} {a b h q r x p : List Float} (g : Given n m i k a b h q r x p) (f : List Float) where
+-- ---- the parts put one after another into f
+module _ {w : ℕ → ℕ} {n m i k : ℕ} {P : Places} {a b h q r x p : List Float} (g : Given w n m i k P a b h q r x p) (f : List Float) (same : length f ≡ k) where
   abbrev parts : List (List Float)
   parts = a ∷ b ∷ h ∷ q ∷ r ∷ x ∷ p ∷ []
 
-  pub put_next : (j : ℕ) {t : ℕ} {f₁ f₂ : List Float} → j < 7 → t ≡ offset (filter_parts n m i) j → t + length (get_or parts j []) ≤ length f₁
-      → f₁ ≡ placed 0 (joined (take j parts)) f → f₂ ≡ put_at t (get_or parts j []) f₁ → f₂ ≡ placed 0 (joined (take (suc j) parts)) f
-  put_next j {t} {f₁} w et room e d =
-      next-part (parts-given g) f j w e (slice-put t f₁ (get_or parts j []) room d ∙ ap (λ (z : ℕ). placed z (get_or parts j []) f₁) et)
+  abbrev L : Parts
+  L = filter_parts_by w n m i
 
-  pub put_all : {f₁ : List Float} → length f ≡ k → f₁ ≡ placed 0 (joined parts) f → f₁ ≡ joined parts
-  put_all l e = all-parts (parts-given g) f (l ∙ g.whole.long) e
+  -- f₁ has the first j parts in front of what f held
+  record Put (j : ℕ) (f₁ : List Float) : Type 0 where
+    is : f₁ ≡ placed 0 (joined (take j parts)) f
+    long : length f₁ ≡ k
 
--- the n numbers of f from number k on are copied into all of o, from j to e as the code has it
-pub copied_to : {n k j e : ℕ} (f o : List Float) {o₁ : List Float} → j ≡ k → e ≡ k + n → length o ≡ n → k + n ≤ length f → o₁ ≡ put_at 0 (take (e - j) (drop j f)) o → o₁ ≡ take n (drop k f)
-copied_to {n} {k} {j} {e} f o d q l h p =
+  put_next : (j : ℕ) {t : ℕ} {f₁ f₂ : List Float} → j < 7 → length (get_or parts j []) ≡ part_size L j → t ≡ offset L j → Put j f₁ → f₂ ≡ put_at t (get_or parts j []) f₁
+      → Put (suc j) f₂
+  put_next j {t} {f₁} l size et F d =
+      let part = get_or parts j [] in
+      let within = part-within L j l in
+      let whole = g.at.long in
+      let room : t + length part ≤ length f₁ = omega (arith, F.long) in
+      let e = slice-put t f₁ part room d in
+      record {
+        is = next-part (parts-given g) f j l F.is (e ∙ ap (λ (z : ℕ). placed z part f₁) et);
+        long = ap length e ∙ length-placed t part f₁ room ∙ F.long;
+      }
+
+  pub put_all : {f₁ f₂ f₃ f₄ f₅ f₆ f₇ : List Float} → f₁ ≡ put_at 0 a f → f₂ ≡ put_at P.b b f₁ → f₃ ≡ put_at P.h h f₂ → f₄ ≡ put_at P.q q f₃ → f₅ ≡ put_at P.r r f₄
+      → f₆ ≡ put_at P.x x f₅ → f₇ ≡ put_at P.p p f₆ → f₇ ≡ joined parts
+  put_all e₁ e₂ e₃ e₄ e₅ e₆ e₇ =
+      let d₁ = put_next 0 (omega arith) g.first refl (record { is = sym (placed-none 0 f); long = same }) e₁ in
+      let d₂ = put_next 1 (omega arith) g.second g.at.b d₁ e₂ in
+      let d₃ = put_next 2 (omega arith) g.third g.at.h d₂ e₃ in
+      let d₄ = put_next 3 (omega arith) g.fourth g.at.q d₃ e₄ in
+      let d₅ = put_next 4 (omega arith) g.fifth g.at.r d₄ e₅ in
+      let d₆ = put_next 5 (omega arith) (omega (arith, g.sixth)) g.at.x d₅ e₆ in
+      let d₇ = put_next 6 (omega arith) g.last g.at.p d₆ e₇ in
+      all-parts (parts-given g) f (same ∙ g.at.long) d₇.is
+
+-- ---- the n numbers of f from number k on are copied into all of o, from j to e as the code has it
+pub copied : {n k j e : ℕ} (f o : List Float) {o₁ : List Float} → j ≡ k → e ≡ k + n → length o ≡ n → k + n ≤ length f → o₁ ≡ put_at 0 (take (e - j) (drop j f)) o → o₁ ≡ take n (drop k f)
+copied {n} {k} {j} {e} f o d q l h p =
     let w : e - j ≡ n = omega arith in
-    let same = ap₂ (λ (w j : ℕ). take w (drop j f)) w d in
+    let same : take (e - j) (drop j f) ≡ take n (drop k f) = λ t. take (w t) (drop (d t) f) in
     let long : length (take n (drop k f)) ≡ n = simp (length-take, length-drop) (omega arith) in
     slice-put 0 o (take n (drop k f)) (omega (arith, long, l)) (p ∙ ap (λ (t : List Float). put_at 0 t o) same) ∙ placed-whole (take n (drop k f)) o (long ∙ sym l)
-
-pub copied : {n k j : ℕ} (f o : List Float) {o₁ : List Float} → j ≡ k → length o ≡ n → k + n ≤ length f → o₁ ≡ put_at 0 (take (j + n - j) (drop j f)) o → o₁ ≡ take n (drop k f)
-copied f o d l h p = copied_to f o d (omega arith) l h p

@@ -14,7 +14,6 @@ use Rattle.answer.specs.Outcome.{Outcome, done, if_fitting}
 use Rattle.answer.proofs.Choice.{and_left, and_right}
 use Rattle.answer.proofs.Answers.{differ, same_answer, same-refusal}
 use Rattle.answer.specs.declared.Refusal.{Refusal}
-use Rattle.answer.specs.Told.{number}
 use Rattle.scalar.specs.Number.{+0}
 use Rattle.algebra.specs.Matrix.{Vector, at}
 use Rattle.sizes.specs.Size.{sized}
@@ -27,7 +26,7 @@ use Rattle.layout.proofs.Calls.{slice-put}
 use Rattle.steps.specs.Step.{well_sized}
 use Rattle.road.specs.declared.Pair.{Pair}
 use Rattle.road.specs.Road.{Filter, estimate_of, tracker_of, updated_of}
-use Rattle.c_copies.specs.Filter.{is_filter, is_step, is_step_with, is_road, motion_at, sensor_at, estimate_at, road_in, estimate_numbers, with_estimate, predicted_in, predict_in, outcome_in, update_in}
+use Rattle.c_copies.specs.Filter.{is_filter_by, is_step_by, is_step_with_by, is_step, is_step_with, is_road, motion_at, sensor_at, estimate_at, road_in, estimate_numbers, with_estimate, predicted_in, predict_in, outcome_in, update_in}
 
 pub record Road (n m i k j : ℕ) : Type 0 where
   pub states : n ≡ 2
@@ -55,9 +54,9 @@ pub record Passed (n m i k j l : ℕ) : Type 0 where
   pub road : Road n m i k j
   pub room : l ≡ 1
 
-pub passed_of : (n m i k j l : ℕ) {t u : Bool} → t ≡ is_road n m i k j → u ≡ t && eqb l 1 → u ≡ true → Passed n m i k j l
-passed_of n m i k j l e d q =
-    let all = sym (d ∙ ap (λ (b : Bool). b && eqb l 1) e) ∙ q in
+pub passed_of : (n m i k j l : ℕ) {t : Bool} → t ≡ is_road n m i k j → t && eqb l 1 ≡ true → Passed n m i k j l
+passed_of n m i k j l e q =
+    let all = sym (ap (λ (b : Bool). b && eqb l 1) e) ∙ q in
     record { road = road_of n m i k j (and_left _ _ all); room = eqb-true l 1 (and_right (is_road n m i k j) _ all) }
 
 -- what is read of its slice, and put into it
@@ -69,20 +68,20 @@ pair_put f e l p = slice-put 13 f (estimate_numbers (estimate_of e)) (omega (ari
 
 -- the tests of the sizes are passed
 pub step-passed : {k j : ℕ} → k ≡ 19 → j ≡ 1 → is_step 2 1 1 k 1 j ≡ true
-unfolding is_step is_filter well_sized sized
+unfolding is_step_by is_filter_by well_sized sized
 step-passed d e = ap₂ (λ (k j : ℕ). is_step 2 1 1 k 1 j) d e
 
 pub with-passed : {k j l : ℕ} → k ≡ 19 → j ≡ 1 → l ≡ 1 → is_step_with 2 1 1 k 1 j 1 l ≡ true
-unfolding is_step_with
+unfolding is_step_with_by
 with-passed {k} {j} {l} d e g = λ t. step-passed d e t && eq-eqb l 1 g t
 
 -- ---- a prediction: F is the filter as the code has it, and e the estimate that it leaves
 module _ {n m i : ℕ} (f u : List Float) (R : Road n m i (length f) (length u)) {F : Filter} (read : F ≡ road_in f) where
-  pub predicts : {e : Estimate} {g : List Float} → done tt e ≡ predict F.motion (at u 0 ∷ []) F.start → g ≡ with_estimate 2 1 1 f e → (0, g) ≡ predict_in n m i f u
+  pub predicts : {e : Estimate} {g : List Float} → done tt e ≡ predict F.motion (at u 0 ∷ []) F.start → g ≡ with_estimate 2 1 1 f e → (Ok tt, g) ≡ predict_in n m i f u
   predicts {e} {g} s p =
       let o : done tt e ≡ predict (motion_at 2 1 1 f) u (estimate_at 2 1 1 f) =
       s ∙ ap₂ (λ (G : Filter) (v : Vector). predict G.motion v G.start) read (whole-vector 1 u R.one) in
-      (λ t. (0, p t)) ∙ ap (predicted_in 2 1 1 f) o
+      (λ t. (Ok tt, p t)) ∙ ap (predicted_in 2 1 1 f) o
       ∙ ap (λ (b : Bool). predicted_in 2 1 1 f (if_fitting b (predict (motion_at 2 1 1 f) u (estimate_at 2 1 1 f)))) (sym (step-passed R.long R.one))
       ∙ (λ t. predict_in (sym R.states t) (sym R.measurements t) (sym R.inputs t) f u)
 
@@ -101,25 +100,25 @@ module _ {n m i : ℕ} (f z y : List Float) (R : Road n m i (length f) (length z
   same = s ∙ ap₂ (λ (G : Filter) (v : Vector). updated_of G.start (update G.sensor v G.start)) read (whole-vector 1 z R.one)
 
   -- by the sizes
-  by_sizes : {r : ℕ × (List Float × List Float)} → r ≡ outcome_in 2 1 1 f y outcome → r ≡ update_in n m i f z y
+  by_sizes : {r : Answer (Unit {0}) × (List Float × List Float)} → r ≡ outcome_in 2 1 1 f y outcome → r ≡ update_in n m i f z y
   by_sizes p =
       p
       ∙ ap (λ (b : Bool). outcome_in 2 1 1 f y (if_fitting b outcome)) (sym (with-passed R.long R.one ly))
       ∙ (λ t. update_in (sym R.states t) (sym R.measurements t) (sym R.inputs t) f z y)
 
-  pub updates : {x : Float} {g : List Float} → a ≡ Ok x → g ≡ with_estimate 2 1 1 f e → (0, (g, set y 0 x)) ≡ update_in n m i f z y
+  pub updates : {x : Float} {g : List Float} → a ≡ Ok x → g ≡ with_estimate 2 1 1 f e → (Ok tt, (g, set y 0 x)) ≡ update_in n m i f z y
   updates {x} {g} d p = by_sizes (go outcome (way _ _ _) same)
     where
-      go : (o : Outcome Estimate Vector) → Way 2 1 o → (a, e) ≡ updated_of (estimate_at 2 1 1 f) o → (0, (g, set y 0 x)) ≡ outcome_in 2 1 1 f y o
+      go : (o : Outcome Estimate Vector) → Way 2 1 o → (a, e) ≡ updated_of (estimate_at 2 1 1 f) o → (Ok tt, (g, set y 0 x)) ≡ outcome_in 2 1 1 f y o
       go o (stopped k) q = absurd (differ ((λ t. (sym q t).0) ∙ d))
       go o (went c b lc sb) q =
           let told : x ≡ at c 0 = same_answer (sym d ∙ λ t. (q t).0) in
           let there : set y 0 x ≡ c = one_place y x ly ∙ ap (λ (w : Float). w ∷ []) told ∙ whole-vector 1 c lc in
-          λ t. (0, ((p ∙ ap (with_estimate 2 1 1 f) (λ t. (q t).1)) t, there t))
+          λ t. (Ok tt, ((p ∙ ap (with_estimate 2 1 1 f) (λ t. (q t).1)) t, there t))
 
-  pub refuses : {k : Refusal} → a ≡ Err k → (number k, (f, y)) ≡ update_in n m i f z y
+  pub refuses : {k : Refusal} → a ≡ Err k → (Err k, (f, y)) ≡ update_in n m i f z y
   refuses {k} d = by_sizes (go outcome (way _ _ _) same)
     where
-      go : (o : Outcome Estimate Vector) → Way 2 1 o → (a, e) ≡ updated_of (estimate_at 2 1 1 f) o → (number k, (f, y)) ≡ outcome_in 2 1 1 f y o
-      go o (stopped j) q = let told : k ≡ j = same-refusal (sym d ∙ λ t. (q t).0) in λ t. (number (told t), (f, y))
+      go : (o : Outcome Estimate Vector) → Way 2 1 o → (a, e) ≡ updated_of (estimate_at 2 1 1 f) o → (Err k, (f, y)) ≡ outcome_in 2 1 1 f y o
+      go o (stopped j) q = let told : k ≡ j = same-refusal (sym d ∙ λ t. (q t).0) in λ t. (Err (told t), (f, y))
       go o (went c b lc sb) q = absurd (differ (sym d ∙ λ t. (q t).0))

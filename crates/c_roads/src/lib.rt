@@ -4,30 +4,32 @@
 
 ghost use Rattle.std.specs.Prelude.{◌≡◌, cond, eqb, length};
 ghost use Rattle.scalar.specs.Number.{+0};
-ghost use Rattle.answer.specs.Told.{given};
+ghost use Rattle.answer.specs.Told.{written};
 ghost use Rattle.road.specs.Road.{road_of, estimate_of, tracker_of};
 ghost use Rattle.layout.specs.Layout.{put_at};
 ghost use Rattle.c_roads.specs.Plane.{is_plane};
 ghost use Rattle.c_copies.specs.Filter.{is_road, road_in, estimate_numbers, filter_numbers, tracker_in};
 
+use answer::Refusal;
 use road::{Motion, Pair, Road, Sensor, Two};
-use sizes::both;
+use sizes::fits;
 
 // ---- the sizes that are written out
 
 // East and north: four states, two measurements and two inputs.
+#[tactic(auto, unfolding(crate::specs::Plane::is_plane))]
 pub fn is_plane(n: usize, m: usize, i: usize) -> bool
     ensures { result ≡ is_plane n m i }
 {
-    both(n == 4, both(m == 2, i == 2))
+    (n == 4) & ((m == 2) & (i == 2))
 }
 
 // The sizes of a road, with len numbers of the filter and k beside it.
+#[tactic(auto, unfolding(c_copies::specs::Filter::is_road))]
 pub fn is_road(n: usize, m: usize, i: usize, len: usize, k: usize) -> bool
     ensures { result ≡ is_road n m i len k }
 {
-    let sizes = both(n == 2, both(m == 1, i == 1));
-    both(sizes, both(len == 19, k == 1))
+    ((n == 2) & ((m == 1) & (i == 1))) & ((len == 19) & (k == 1))
 }
 
 // ---- its numbers
@@ -72,6 +74,7 @@ fn whole_road(f: &[f64]) -> Road
 }
 
 // The road in a slice of 19 numbers; in any other, one that stands still.
+#[tactic(auto, using(std::proofs::lemmas::Bool::Decides::nat_tests))]
 pub fn road_at(f: &[f64]) -> Road
     ensures { road_of result ≡ cond (eqb (length f.now) 19) (road_in f.now) (tracker_of +0 +0 +0) }
 {
@@ -105,20 +108,17 @@ fn road_numbers(f: Road) -> [f64; 19]
     ]
 }
 
-// A filter of 19 numbers that tracks position and speed, with the step dt in seconds. It tells a number: the C interface.
+// A filter of 19 numbers that tracks position and speed, with the step dt in seconds.
 pub fn kalman_position_velocity(
     dt: f64,
     process_noise: f64,
     measurement_noise: f64,
     filter: &mut [f64],
-) -> u8
-    ensures { (result, filter.new) ≡ given filter.old (tracker_in dt process_noise measurement_noise (length filter.old)) }
+) -> Result<(), Refusal>
+    ensures { (result, filter.new) ≡ written filter.old (tracker_in dt process_noise measurement_noise (length filter.old)) }
 {
-    if filter.len() == 19 {
-        let numbers = road_numbers(Road::position_velocity(dt, process_noise, measurement_noise));
-        layout::put_slice(filter, 0, &numbers[..]);
-        0
-    } else {
-        1
-    }
+    fits(filter.len() == 19)?;
+    let numbers = road_numbers(Road::position_velocity(dt, process_noise, measurement_noise));
+    layout::put_slice(filter, 0, &numbers[..]);
+    Ok(())
 }

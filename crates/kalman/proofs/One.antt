@@ -4,9 +4,10 @@ use mathlib.Core.List.{List, [], ◌∷◌}
 use Prim.Native.Nat.{ℕ}
 use lib.ListN.{length}
 use lib.Ieee.{Float}
-use Rattle.std.specs.Prelude.{Ok}
+use Rattle.std.specs.Prelude.{Ok, Err}
+use Rattle.std.specs.Result.{MatchResult, IsOkAnd}
 use Rattle.answer.specs.declared.Step.{Step}
-use Rattle.answer.specs.Answer.{mapped}
+use Rattle.answer.specs.Answer.{Answer, mapped}
 use Rattle.answer.specs.Outcome.{Outcome, standing}
 use Rattle.answer.proofs.Answers.{differ, same_answer}
 use Rattle.algebra.specs.Matrix.{Vector, at}
@@ -18,6 +19,12 @@ use Rattle.steps.specs.Flat.{sensor_flat}
 use Rattle.steps.proofs.Records.{one_mapped, one_of_four, same-one, one_told}
 use Rattle.kalman.specs.declared.KalmanFilter.{KalmanFilter}
 use Rattle.kalman.specs.Record.{estimate_flat, holding, updating, update_of, update_one_of}
+
+-- what `Result::map` makes of a closure that gives f
+pub is_mapped : {A B : Type 0} (f : A → B) (a : Answer A) (r : Answer B) → MatchResult a (λ x. IsOkAnd r (λ y. y ≡ f x)) (λ e. r ≡ Err e) → r ≡ mapped f a
+is_mapped f (Err e) r m = m
+is_mapped f (Ok x) (Ok y) m = ap Ok m
+is_mapped f (Ok x) (Err e) m = absurd m
 
 module _ (f : KalmanFilter) (z : Float) where
   abbrev by : Vector → Outcome Estimate Vector

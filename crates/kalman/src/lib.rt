@@ -5,6 +5,7 @@
 ghost use Rattle.std.specs.Prelude.{◌≡◌};
 ghost use Rattle.answer.specs.Answer.{Answer};
 ghost use Rattle.answer.specs.Outcome.{handed, standing};
+ghost use Rattle.algebra.specs.Matrix.{at};
 ghost use Rattle.algebra.specs.Array.{cut, used_flat};
 ghost use Rattle.sizes.specs.Size.{count};
 ghost use Rattle.matrix.specs.Result.{as_vector};
@@ -204,11 +205,13 @@ impl KalmanFilter {
         ensures { result ≡ update_one_of self z }
     {
         let Step { answer, left } = self.update([z, 0.0, 0.0, 0.0], 1);
-        let answer = match answer {
-            Ok(y) => Ok(y[0]),
-            Err(refusal) => Err(refusal),
-        };
-        Step { answer, left }
+        let first = |y: [f64; 4]| -> f64
+            ensures { result ≡ at y 0 }
+        { y[0] };
+        Step {
+            answer: answer.map(first),
+            left,
+        }
     }
 
     // The state x and the covariance p of k states. Refused as a wrong size: a size of the record, or k is not n.

@@ -5,7 +5,7 @@ use Rattle.std.specs.Prelude.{Ok}
 use Rattle.algebra.specs.Array.{cut, pad_row}
 use Rattle.filtering.specs.Linear.{update}
 use Rattle.filtering.proofs.Shapes.{way}
-use Rattle.small_inverse.proofs.Exits.{exit}
+use Rattle.answer.proofs.Exits.{exit}
 use Rattle.road.specs.Road.{updated_of}
 use Rattle.kalman.specs.Record.{estimate_flat, holding}
 use Rattle.kalman.proofs.Steps.{road_refused, road_answered}

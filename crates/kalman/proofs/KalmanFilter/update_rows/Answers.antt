@@ -1,7 +1,7 @@
 -- `update_rows` meets its contract: by what the update on rows answers.
 use mathlib.Core.Path.{◌∙◌}
 use Rattle.filtering.proofs.Shapes.{way}
-use Rattle.small_inverse.proofs.Exits.{exit}
+use Rattle.answer.proofs.Exits.{exit}
 use Rattle.kalman.specs.Record.{keeping}
 use Rattle.kalman.proofs.Steps.{read-update, rows-refused, rows-answered}
 use Rattle.kalman.proofs.KalmanFilter.update_rows.Goals as goal

@@ -1,6 +1,6 @@
 -- `innovation` meets its contract: by what the inversion of one number answers.
 use mathlib.Core.Path.{sym, ap, ◌∙◌}
-use Rattle.small_inverse.proofs.Exits.{exit}
+use Rattle.answer.proofs.Exits.{exit}
 use Rattle.road.proofs.Roads.{told_by, when_answered, when_refused}
 use Rattle.road.proofs.Sensor.innovation.Goals as goal
 

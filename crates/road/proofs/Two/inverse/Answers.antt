@@ -2,7 +2,7 @@
 use mathlib.Core.Path.{sym, ap, ◌∙◌}
 use Rattle.answer.specs.Answer.{mapped}
 use Rattle.algebra.specs.Array.{cut, used}
-use Rattle.small_inverse.proofs.Exits.{exit}
+use Rattle.answer.proofs.Exits.{exit}
 use Rattle.small_inverse.proofs.Two.{two_read}
 use Rattle.road.specs.Road.{matrix_of}
 use Rattle.road.proofs.Two.inverse.Goals as goal
