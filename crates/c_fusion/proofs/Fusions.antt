@@ -2,7 +2,7 @@
 use mathlib.Core.Path.{◌≡◌, refl, sym, ap, ap₂, subst, ◌∙◌}
 use mathlib.Core.List.{List, [], ◌∷◌}
 use mathlib.Core.Bool.{Bool, true, false, ◌&&◌}
-use Prim.Native.Nat.{ℕ, zero, suc, ◌+◌, ◌-◌, ◌*◌, ◌/◌, ◌%◌, ◌≤◌, ◌<◌}
+use Prim.Native.Nat.{ℕ, zero, suc, ◌+◌, ◌*◌, ◌/◌, ◌%◌, ◌≤◌, ◌<◌}
 use native.Mathlib.Nat.{div-eq_of_eq-mul_left, mod-add-div'}
 use native.Mathlib.Numerals.{add-one}
 use native.Mathlib.Omega.{arith}
@@ -16,23 +16,21 @@ use Rattle.answer.proofs.Tables.{length-table}
 use Rattle.algebra.specs.Array.{pad_row, pad}
 use Rattle.algebra.proofs.Matrices.{shape-mat}
 use Rattle.sizes.specs.declared.Size.{Size}
-use Rattle.sizes.specs.Size.{size_of, count, front, part}
-use Rattle.sizes.proofs.Sizes.{bounds_of, is_count}
+use Rattle.sizes.specs.Size.{count, front, part}
+use Rattle.sizes.proofs.Sizes.{bounds}
 use Rattle.filtering.specs.Information.{Information, informed, Reading, fuse}
-use Rattle.layout.specs.Layout.{vector_at, matrix_at, vector_in, matrix_in, total, filter_parts}
+use Rattle.layout.specs.Layout.{vector_at, matrix_at, vector_in, matrix_in}
 use Rattle.layout.proofs.Rows.{ends-within}
 use Rattle.layout.proofs.Calls.{vector-read, matrix-read, vector-used, matrix-used}
-use Rattle.steps.specs.Step.{Rows, well_sized}
-use Rattle.steps.proofs.Sizes.{well_sized_lem}
+use Rattle.steps.specs.Step.{Rows}
 use Rattle.information_steps.specs.Step.{information_rows, arrays_of}
 use Rattle.information_steps.proofs.Ways.{Sized, shape-informed, length-informed, information-back}
 use Rattle.c_copies.specs.declared.Places.{Places}
-use Rattle.c_copies.specs.Filter.{places_of, is_filter, is_step}
-use Rattle.c_copies.proofs.Filters.{Whole, places_are}
-use Rattle.c_copies.proofs.Steps.{is_n, is_m}
+use Rattle.c_copies.proofs.Filters.{Placed}
 use Rattle.c_information.specs.Information.{information_at, with_information}
 use Rattle.c_information.proofs.Calls.{kept, put-information}
-use Rattle.c_fusion.specs.Fusion.{is_sensor, reading_length, reading_at, readings_at}
+use Rattle.c_fusion.specs.declared.SensorPlaces.{SensorPlaces}
+use Rattle.c_fusion.specs.Fusion.{reading_length, sensor_places, reading_at, readings_at}
 
 -- ---- k is c times e, tested by division
 pub divided : (k c : ℕ) {e : ℕ} → 0 < e → eqb (k / e) c && eqb (k % e) 0 ≡ eqb k (c * e)
@@ -51,61 +49,43 @@ divided k c {e} h = go (eqb k (c * e)) refl (eqb (k / e) c && eqb (k % e) 0) ref
         let product : k / e * e ≡ c * e = ap (λ (x : ℕ). x * e) times in
         absurd (eqb-false k (c * e) p (omega (arith, mod-add-div' k e)))
 
--- ---- a slice of c sensors beside a filter of q numbers, as the code tests it
-pub sensors-tested : (n m i q c k : ℕ) {e : ℕ} {t u : Bool} → e ≡ reading_length (count (size_of n)) (count (size_of m)) → u ≡ is_filter n m i q → t ≡ u && (eqb (k / e) c && eqb (k % e) 0)
-    → t ≡ is_step n m i q (c * reading_length n m) k
-unfolding is_step is_filter
-sensors-tested n m i q c k {e} d p r = r ∙ ap (λ (b : Bool). b && (eqb (k / e) c && eqb (k % e) 0)) p ∙ go (well_sized n m i) refl
-  where
-    go : (b : Bool) → well_sized n m i ≡ b → (b && eqb q (total (filter_parts n m i))) && (eqb (k / e) c && eqb (k % e) 0) ≡ (b && eqb q (total (filter_parts n m i))) && eqb k (c * reading_length n m)
-    go false h = refl
-    go true h =
-        let s = well_sized_lem n m i h in
-        let same : e ≡ reading_length n m = d ∙ λ t. reading_length (is_count {s = size_of n} s.states refl t) (is_count {s = size_of m} s.measurements refl t) in
-        let some : 0 < e = omega (arith, same, (bounds_of m s.measurements).least) in
-        ap (λ (b : Bool). eqb q (total (filter_parts n m i)) && b) (divided k c some ∙ ap (λ (x : ℕ). eqb k (c * x)) same)
+-- a sensor takes some numbers; and a slice of k numbers, as the code tests it beside a filter: each is where a sensor's parts begin
+takes_some : (N M : Size) {each : SensorPlaces} → each ≡ sensor_places (count N) (count M) → 0 < each.len
+takes_some N M e = omega (arith, ap (λ (q : SensorPlaces). q.len) e, (bounds M).least)
 
--- ---- one sensor's slices, of h, w and z numbers, as the code tests them
-pub sensor-tested : (n m i q h w z : ℕ) {P : Places} {t u : Bool} → P ≡ places_of (count (size_of n)) (count (size_of m)) (count (size_of i)) → u ≡ is_step n m i q m z
-    → t ≡ u && (eqb h (P.q - P.h) && eqb w (P.x - P.r)) → t ≡ is_sensor n m i q h w z
-unfolding is_sensor is_step is_filter
-sensor-tested n m i q h w z {P} d p r = r ∙ ap (λ (b : Bool). b && (eqb h (P.q - P.h) && eqb w (P.x - P.r))) p ∙ go (well_sized n m i) refl
-  where
-    go : (b : Bool) → well_sized n m i ≡ b → ((b && eqb q (total (filter_parts n m i))) && eqb z m) && (eqb h (P.q - P.h) && eqb w (P.x - P.r))
-        ≡ ((b && eqb q (total (filter_parts n m i))) && eqb z m) && (eqb h (m * n) && eqb w (m * m))
-    go false e = refl
-    go true e =
-        let L = places_are n m i e d in
-        let eh : P.q - P.h ≡ m * n = omega (arith, ap (λ (y : Places). y.h) L, ap (λ (y : Places). y.q) L) in
-        let er : P.x - P.r ≡ m * m = omega (arith, ap (λ (y : Places). y.r) L, ap (λ (y : Places). y.x) L) in
-        λ t. (eqb q (total (filter_parts n m i)) && eqb z m) && (eqb h (eh t) && eqb w (er t))
+pub each-tested : {n m i q : ℕ} {P : Places} {each : SensorPlaces} → Placed (λ m. m) n m i q P → (c k : ℕ) → each ≡ sensor_places (count P.n) (count P.m)
+    → eqb (k / each.len) c && eqb (k % each.len) 0 ≡ eqb k (c * reading_length n m)
+each-tested {n} {m} {P = P} {each} A c k e =
+    let same : each.len ≡ reading_length n m = ap (λ (q : SensorPlaces). q.len) e ∙ λ t. reading_length (A.states t) (A.measurements t) in
+    divided k c (takes_some P.n P.m e) ∙ ap (λ (x : ℕ). eqb k (c * x)) same
 
--- ---- where the parts of sensor j stand, by the sizes r and c and the length l as the code has them
-pub record Laid (N M : Size) (s : List Float) (j r c l : ℕ) : Type 0 where
-  pub start : j * l ≡ j * reading_length (count N) (count M)
-  pub columns : r * c ≡ count M * count N
-  pub rows : r * r ≡ count M * count M
-  pub ends : j * l + r * c + r * r + count M ≤ length s
+-- ---- where the parts of sensor j stand, by the places p within it, as the code has them
+pub record Laid (N M : Size) (s : List Float) (j : ℕ) (p : SensorPlaces) : Type 0 where
+  pub is : p ≡ sensor_places (count N) (count M)
+  pub start : j * p.len ≡ j * reading_length (count N) (count M)
+  pub ends : j * p.len + p.z + count M ≤ length s
+  pub second : p.w ≡ count M * count N
+  pub third : p.z ≡ count M * count N + count M * count M
 
-pub laid : {N M : Size} {s : List Float} {j r c l : ℕ} → j * reading_length (count N) (count M) + reading_length (count N) (count M) ≤ length s
-    → r ≡ count M → c ≡ count N → l ≡ reading_length (count N) (count M) → Laid N M s j r c l
-laid {j = j} room er ec el =
-    let start = ap (λ (x : ℕ). j * x) el in
-    let columns = ap₂ (λ (x y : ℕ). x * y) er ec in
-    let rows = ap₂ (λ (x y : ℕ). x * y) er er in
-    record { start = start; columns = columns; rows = rows; ends = omega arith }
+pub laid : {N M : Size} {s : List Float} {j : ℕ} {p : SensorPlaces} → j * reading_length (count N) (count M) + reading_length (count N) (count M) ≤ length s
+    → p ≡ sensor_places (count N) (count M) → Laid N M s j p
+laid {j = j} room e =
+    let start = ap (λ (q : SensorPlaces). j * q.len) e in
+    let second = ap (λ (q : SensorPlaces). q.w) e in
+    let third = ap (λ (q : SensorPlaces). q.z) e in
+    record { is = e; start = start; ends = omega arith; second = second; third = third }
 
-module _ {N M : Size} {s : List Float} {j r c l : ℕ} (p : Laid N M s j r c l) where
-  pub sensor-read : {h : Rows} → h ≡ pad (matrix_in (count M) (count N) s (j * l)) → part M N h ≡ (reading_at (count N) (count M) s j).h
-  sensor-read e = matrix-used (j * l) s refl refl (omega arith) e ∙ ap (matrix_at (count M) (count N) s) p.start
+module _ {N M : Size} {s : List Float} {j : ℕ} {p : SensorPlaces} (L : Laid N M s j p) where
+  pub sensor-read : {h : Rows} → h ≡ pad (matrix_in (count M) (count N) s (j * p.len)) → part M N h ≡ (reading_at (count N) (count M) s j).h
+  sensor-read e = matrix-used (j * p.len) s refl refl (omega arith) e ∙ ap (matrix_at (count M) (count N) s) L.start
 
-  pub noise-read : {w : Rows} → w ≡ pad (matrix_in (count M) (count M) s (j * l + r * c)) → part M M w ≡ (reading_at (count N) (count M) s j).w
-  noise-read e = matrix-used (j * l + r * c) s refl refl (omega arith) e ∙ ap₂ (λ (x y : ℕ). matrix_at (count M) (count M) s (x + y)) p.start p.columns
+  pub noise-read : {w : Rows} → w ≡ pad (matrix_in (count M) (count M) s (j * p.len + p.w)) → part M M w ≡ (reading_at (count N) (count M) s j).w
+  noise-read e = matrix-used (j * p.len + p.w) s refl refl (omega arith) e ∙ ap₂ (λ (x y : ℕ). matrix_at (count M) (count M) s (x + y)) L.start L.second
 
-  pub measured-read : {z : List Float} → z ≡ pad_row (vector_in (count M) s (j * l + r * c + r * r)) → front M z ≡ (reading_at (count N) (count M) s j).z
+  pub measured-read : {z : List Float} → z ≡ pad_row (vector_in (count M) s (j * p.len + p.z)) → front M z ≡ (reading_at (count N) (count M) s j).z
   measured-read e =
-      vector-used (j * l + r * c + r * r) s refl (omega arith) e
-      ∙ λ t. vector_at (count M) s (p.start t + p.columns t + p.rows t)
+      let place : j * p.len + p.z ≡ j * reading_length (count N) (count M) + count M * count N + count M * count M = omega arith in
+      vector-used (j * p.len + p.z) s refl (omega arith) e ∙ ap (vector_at (count M) s) place
 
 -- ---- one reading more, at the end; and what is left is of n states
 fuse-more : (n m c : ℕ) (g : ℕ → Reading) (o : Information) → fuse n m (table (suc c) g) o ≡ fuse n m (g c ∷ []) (fuse n m (table c g) o)
@@ -156,28 +136,21 @@ module _ {N M : Size} {s : List Float} {o : Information} {c : ℕ} {w : Rows} {v
       F.is ∙ ap (λ (k : ℕ). arrays_of (fuse (count N) (count M) (readings_at (count N) (count M) s k) o)) all
 
 -- ---- begun with what a filter's slice f keeps, and put back into it
-module _ (n m i : ℕ) (f : List Float) (W : Whole n m i (length f)) {N M : Size} {P : Places} (en : N ≡ size_of n) (em : M ≡ size_of m) (eP : P ≡ places_of n m i) where
-  N_is : count N ≡ n
-  N_is = is_n n m i f W en em refl eP
-
-  M_is : count M ≡ m
-  M_is = is_m n m i f W en em refl eP
-
+module _ {n m i : ℕ} (f : List Float) {P : Places} (A : Placed (λ m. m) n m i (length f) P) where
   sized_at : Sized n (information_at n m i f)
   sized_at = (shape-mat n n _, length-table n _)
 
-  pub fusing-begun : (s : List Float) (c : ℕ) {w : Rows} {v : List Float} → length s ≡ c * reading_length n m → v ≡ pad_row (vector_in (count N) f P.x) → w ≡ pad (matrix_in (count N) (count N) f P.p) → Fusing N M s (information_at n m i f) c 0 w v
+  pub fusing-begun : (s : List Float) (c : ℕ) {w : Rows} {v : List Float} → length s ≡ c * reading_length n m → v ≡ pad_row (vector_in (count P.n) f P.x) → w ≡ pad (matrix_in (count P.n) (count P.n) f P.p)
+      → Fusing P.n P.m s (information_at n m i f) c 0 w v
   fusing-begun s c l ev ew =
-      let at = ap (λ (z : Places). z.x) eP in
-      let after = ap (λ (z : Places). z.p) eP in
-      fusing-none (l ∙ λ t. c * reading_length (sym N_is t) (sym M_is t)) (subst (λ (x : ℕ). Sized x (information_at n m i f)) (sym N_is) sized_at)
+      fusing-none (l ∙ λ t. c * reading_length (sym A.states t) (sym A.measurements t)) (subst (λ (x : ℕ). Sized x (information_at n m i f)) (sym A.states) sized_at)
       (λ t. (
-        (matrix-read P.p f N_is N_is (omega (arith, W.long, after)) ew ∙ ap (λ (x : ℕ). pad (matrix_at n n f x)) after) t,
-        (vector-read P.x f N_is (omega (arith, W.long, at)) ev ∙ ap (λ (x : ℕ). pad_row (vector_at n f x)) at) t,
+        (matrix-read P.p f A.states A.states (omega arith) ew ∙ ap (λ (x : ℕ). pad (matrix_at n n f x)) A.p) t,
+        (vector-read P.x f A.states (omega arith) ev ∙ ap (λ (x : ℕ). pad_row (vector_at n f x)) A.x) t,
       ))
 
-  pub fusing-ended : {s : List Float} {c j : ℕ} {w : Rows} {v g : List Float} → Fusing N M s (information_at n m i f) c j w v → c ≤ j → g ≡ kept P.x f N v w
+  pub fusing-ended : {s : List Float} {c j : ℕ} {w : Rows} {v g : List Float} → Fusing P.n P.m s (information_at n m i f) c j w v → c ≤ j → g ≡ kept P f v w
       → g ≡ with_information n m i f (fuse n m (readings_at n m s c) (information_at n m i f))
   fusing-ended {s} {c} F h p =
-      put-information n m i f W en em eP (fuse n m (readings_at n m s c) (information_at n m i f)) (fuse-sized n m (readings_at n m s c) (information_at n m i f) sized_at)
-      (fusing-all F h ∙ λ t. arrays_of (fuse (N_is t) (M_is t) (readings_at (N_is t) (M_is t) s c) (information_at n m i f))) p
+      put-information f A (fuse n m (readings_at n m s c) (information_at n m i f)) (fuse-sized n m (readings_at n m s c) (information_at n m i f) sized_at)
+      (fusing-all F h ∙ λ t. arrays_of (fuse (A.states t) (A.measurements t) (readings_at (A.states t) (A.measurements t) s c) (information_at n m i f))) p

@@ -2,7 +2,6 @@
 use Rattle.std.specs.Prelude.{ℕ, ◌*◌, List, [], ◌∷◌, length, Float}
 use Rattle.answer.specs.Answer.{Answer, mapped, if_sized}
 use Rattle.answer.specs.Outcome.{Outcome, into, if_fitting, handed}
-use Rattle.answer.specs.Told.{number_of}
 use Rattle.filtering.specs.Filter.{estimate}
 use Rattle.filtering.specs.Information.{Information, of_estimate, covariance, state}
 use Rattle.layout.specs.Layout.{matrix_at, joined}
@@ -16,15 +15,15 @@ information_at n m i f = let e = estimate_at n m i f in record { matrix = e.cova
 abbrev pub with_information : ℕ → ℕ → ℕ → List Float → Information → List Float
 with_information n m i f o = with_estimate n m i f (estimate o.vector o.matrix)
 
--- ---- what a step tells and leaves: 1 where a size does not fit, else the filter's own outcome; what is told is a number
-abbrev pub stepped_in : ℕ → ℕ → ℕ → List Float → Outcome Information (Unit {0}) → ℕ × List Float
-stepped_in n m i f o = handed number_of (with_information n m i f) f o
+-- ---- what a step tells and leaves: refused where a size does not fit, else the filter's own outcome
+abbrev pub stepped_in : ℕ → ℕ → ℕ → List Float → Outcome Information (Unit {0}) → Answer (Unit {0}) × List Float
+stepped_in n m i f o = handed (λ w. w) (with_information n m i f) f o
 
 -- of the state x and the covariance p, by rows
 abbrev pub of_estimate_at : ℕ → List Float → List Float → Answer Information
 of_estimate_at n x p = of_estimate n (estimate x (matrix_at n n p 0))
 
-abbrev pub reset_in : ℕ → ℕ → ℕ → List Float → List Float → List Float → ℕ × List Float
+abbrev pub reset_in : ℕ → ℕ → ℕ → List Float → List Float → List Float → Answer (Unit {0}) × List Float
 reset_in n m i f x p = stepped_in n m i f (if_fitting (is_step_with n m i (length f) n (length x) (n * n) (length p)) (into (of_estimate_at n x p)))
 
 -- ---- a filter of its parts, for a slice of k numbers: of Ω and Ω x, and of an estimate, whose places these then take

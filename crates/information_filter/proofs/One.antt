@@ -4,7 +4,6 @@ use mathlib.Core.List.{List, [], ◌∷◌}
 use lib.ListN.{length}
 use lib.Ieee.{Float}
 use Rattle.std.specs.Prelude.{Ok, Err}
-use Rattle.answer.specs.declared.Refusal.{Refusal}
 use Rattle.answer.specs.declared.Step.{Step}
 use Rattle.answer.specs.Answer.{Answer, mapped}
 use Rattle.answer.specs.Outcome.{Outcome, unchanged, standing, ◌else_leave◌then◌}
@@ -15,12 +14,11 @@ use Rattle.matrix.specs.Result.{as_vector}
 use Rattle.filtering.specs.Filter.{Sensor, innovation}
 use Rattle.filtering.specs.Information.{Information, informed, state, update}
 use Rattle.filtering.proofs.Shapes.{length-innovation}
-use Rattle.steps.specs.Flat.{sensor_flat}
-use Rattle.steps.proofs.Records.{one_value, one_no_value, one_of_four, same-one, one_told}
+use Rattle.steps.proofs.Records.{one_mapped, one_of_four, same-one, one_told}
 use Rattle.information_steps.specs.Step.{update_by}
 use Rattle.information_steps.proofs.Ways.{update_is}
 use Rattle.information_filter.specs.declared.InformationFilter.{InformationFilter}
-use Rattle.information_filter.specs.Record.{held, holding, updating, update_of, update_one_of}
+use Rattle.information_filter.specs.Record.{update_flat, holding, updating, update_of, update_one_of}
 
 -- an update tells m numbers
 told-length : (Y : Sensor Matrix) (z : Vector) (o : Information) (y : Vector) → (update Y z o).told ≡ Ok y → length y ≡ Y.m
@@ -36,17 +34,15 @@ told-length Y z o y q = go (inv Y.m Y.r) ((λ t. (sym (update_is Y z o) t).told)
 
 module _ (f : InformationFilter) (z : Float) where
   abbrev by : Vector → Outcome Information Vector
-  by v = update (sensor_flat f.n f.m f.h f.r) v (held f)
+  by v = update_flat f.n f.m f v
 
   long : (y : Vector) → (updating f (z ∷ []) 1).told ≡ Ok y → length y ≡ 1
   long = one_told f.n f.m f.i by z (told-length _ _ _)
 
-  module _ {u : Step (List Float) InformationFilter} (e : u ≡ update_of f (one_of_four f.n f.m f.i by z) 1) where
-    told : u ≡ record { answer = as_vector (updating f (z ∷ []) 1).told; left = standing (holding f) f (updating f (z ∷ []) 1).left }
-    told = e ∙ λ k. let o = same-one f.n f.m f.i by z k in record { answer = as_vector o.told; left = standing (holding f) f o.left }
-
-    pub one-answered : {y : List Float} → u.answer ≡ Ok y → ◌≡◌ {A = Step Float InformationFilter} (record { answer = Ok (at y 0); left = u.left }) (update_one_of f z)
-    one-answered s = λ k. record { answer = one_value (updating f (z ∷ []) 1).told long (λ k. (told k).answer) s k; left = (told k).left }
-
-    pub one-refused : {k : Refusal} → u.answer ≡ Err k → ◌≡◌ {A = Step Float InformationFilter} (record { answer = Err k; left = u.left }) (update_one_of f z)
-    one-refused s = λ k. record { answer = one_no_value (updating f (z ∷ []) 1).told (λ k. (told k).answer) s k; left = (told k).left }
+  -- u is what `update` hands back
+  pub one_step : {u : Step (List Float) InformationFilter} → u ≡ update_of f (one_of_four f.n f.m f.i by z) 1
+      → ◌≡◌ {A = Step Float InformationFilter} (record { answer = mapped (λ c. at c 0) u.answer; left = u.left }) (update_one_of f z)
+  one_step {u} e =
+      (λ k. record { answer = mapped (λ c. at c 0) (e k).answer; left = (e k).left })
+      ∙ (λ k. let o = same-one f.n f.m f.i by z k in record { answer = mapped (λ c. at c 0) (as_vector o.told); left = standing (holding f) f o.left })
+      ∙ λ k. record { answer = one_mapped (updating f (z ∷ []) 1).told long k; left = standing (holding f) f (updating f (z ∷ []) 1).left }

@@ -60,12 +60,19 @@ holding f o = keeping f (flats_of o)
 abbrev pub held : InformationFilter → Information
 held f = information_flat f.n f.omega f.xi
 
--- ---- the outcome of each step: 1 where a size does not fit, else that of the filter
+-- ---- the steps on a record's numbers, by the sizes
+abbrev pub predict_flat : ℕ → ℕ → InformationFilter → List Float → Outcome Information (Unit {0})
+predict_flat n i f u = predict (motion_flat n i f.a f.b f.q) (cut i u) (information_flat n f.omega f.xi)
+
+abbrev pub update_flat : ℕ → ℕ → InformationFilter → Vector → Outcome Information Vector
+update_flat n m f z = update (sensor_flat n m f.h f.r) z (information_flat n f.omega f.xi)
+
+-- ---- the outcome of each step: refused where a size does not fit, else that of the filter
 abbrev pub predicting : InformationFilter → List Float → ℕ → Outcome Information (Unit {0})
-predicting f u k = if_fitting (fitting f.n f.m f.i f.i k) (predict (motion_flat f.n f.i f.a f.b f.q) (cut f.i u) (held f))
+predicting f u k = if_fitting (fitting f.n f.m f.i f.i k) (predict_flat f.n f.i f u)
 
 abbrev pub updating : InformationFilter → Vector → ℕ → Outcome Information Vector
-updating f z k = if_fitting (fitting f.n f.m f.i f.m k) (update (sensor_flat f.n f.m f.h f.r) z (held f))
+updating f z k = if_fitting (fitting f.n f.m f.i f.m k) (update_flat f.n f.m f z)
 
 -- a sensor of k states and j measurements: its numbers h, its inverted noise w, and what it measured, z
 unfoldable pub fusible : ℕ → ℕ → ℕ → ℕ → ℕ → Bool

@@ -4,6 +4,7 @@
 #![tactic(auto)]
 
 ghost use Rattle.std.specs.Prelude.{◌≡◌};
+ghost use Rattle.algebra.specs.Matrix.{at};
 ghost use Rattle.algebra.specs.Array.{cut};
 ghost use Rattle.matrix.specs.Result.{as_matrix, as_vector};
 ghost use Rattle.answer.specs.Outcome.{handed};
@@ -13,8 +14,6 @@ ghost use Rattle.information_filter.specs.Record.{stepped, update_of, update_one
 ghost use Rattle.information_filter.specs.Record.{state_of, covariance_of, matrix_of, vector_of};
 
 use answer::{Refusal, Step};
-use sizes::{both, size_of};
-use steps::{is_fitting, is_well_sized};
 
 // Sizes: state n, measurement m, input i. Transition a (n by n), input matrix b (n by i), measurement matrix h (m by n), process
 // noise q (n by n), measurement noise r (m by m), information matrix omega (n by n), information vector xi. A matrix stands
@@ -49,19 +48,14 @@ impl InformationFilter {
     fn predict_in(&mut self, u: &[f64; 4], k: usize) -> Result<(), Refusal>
         ensures { (result, self.new) ≡ handed (λ t. t) (holding self.old) self.old (predicting self.old u.now k) }
     {
-        if is_fitting(self.n, self.m, self.i, self.i, k) {
-            let n = size_of(self.n);
-            let i = size_of(self.i);
-            let a = kernel::from_flat(&self.a);
-            let b = kernel::from_flat(&self.b);
-            let q = kernel::from_flat(&self.q);
-            let mut omega = kernel::from_flat(&self.omega);
-            information_steps::predict(&a, &b, &q, u, n, i, &mut omega, &mut self.xi)?;
-            self.omega = kernel::to_flat(&omega);
-            Ok(())
-        } else {
-            Err(Refusal::WrongSize)
-        }
+        let (n, _, i) = steps::fitted(self.n, self.m, self.i, self.i, k)?;
+        let a = kernel::from_flat(&self.a);
+        let b = kernel::from_flat(&self.b);
+        let q = kernel::from_flat(&self.q);
+        let mut omega = kernel::from_flat(&self.omega);
+        information_steps::predict(&a, &b, &q, u, n, i, &mut omega, &mut self.xi)?;
+        self.omega = kernel::to_flat(&omega);
+        Ok(())
     }
 
     // R is inverted first: refused with it, nothing is written; after that the addition stays, whatever is told.
@@ -69,61 +63,46 @@ impl InformationFilter {
         ensures { (result, self.new)
             ≡ handed as_vector (holding self.old) self.old (updating self.old (cut self.old.m z.now) k) }
     {
-        if is_fitting(self.n, self.m, self.i, self.m, k) {
-            let n = size_of(self.n);
-            let m = size_of(self.m);
-            let r = kernel::from_flat(&self.r);
-            let w = inverse::inverse_of(&r, m)?;
-            let h = kernel::from_flat(&self.h);
-            let mut omega = kernel::from_flat(&self.omega);
-            let answer = information_steps::update_by(&h, &w, z, n, m, &mut omega, &mut self.xi);
-            self.omega = kernel::to_flat(&omega);
-            answer
-        } else {
-            Err(Refusal::WrongSize)
-        }
+        let (n, m, _) = steps::fitted(self.n, self.m, self.i, self.m, k)?;
+        let r = kernel::from_flat(&self.r);
+        let w = inverse::inverse_of(&r, m)?;
+        let h = kernel::from_flat(&self.h);
+        let mut omega = kernel::from_flat(&self.omega);
+        let answer = information_steps::update_by(&h, &w, z, n, m, &mut omega, &mut self.xi);
+        self.omega = kernel::to_flat(&omega);
+        answer
     }
 
+    #[tactic(auto, unfolding(crate::specs::Record::fusible))]
     fn fuse_in(&mut self, s: &Sensor) -> Result<(), Refusal>
         ensures { (result, self.new) ≡ handed (λ t. t) (holding self.old) self.old (fusing self.old s.now) }
     {
-        if both(
-            is_fitting(self.n, self.m, self.i, self.n, s.n),
-            self.m == s.m,
-        ) {
-            let n = size_of(self.n);
-            let m = size_of(self.m);
-            let h = kernel::from_flat(&s.h);
-            let w = kernel::from_flat(&s.r_inv);
-            let mut omega = kernel::from_flat(&self.omega);
-            information_steps::inform(&h, &w, &s.z, n, m, &mut omega, &mut self.xi);
-            self.omega = kernel::to_flat(&omega);
-            Ok(())
-        } else {
-            Err(Refusal::WrongSize)
-        }
+        let (n, m, _) = steps::fitted(self.n, self.m, self.i, self.n, s.n)?;
+        sizes::fits(self.m == s.m)?;
+        let h = kernel::from_flat(&s.h);
+        let w = kernel::from_flat(&s.r_inv);
+        let mut omega = kernel::from_flat(&self.omega);
+        information_steps::inform(&h, &w, &s.z, n, m, &mut omega, &mut self.xi);
+        self.omega = kernel::to_flat(&omega);
+        Ok(())
     }
 
     fn reset_in(&mut self, x: &[f64; 4], p: &[[f64; 4]; 4], k: usize) -> Result<(), Refusal>
         ensures { (result, self.new) ≡ handed (λ t. t) (holding self.old) self.old (resetting self.old x.now p.now k) }
     {
-        if is_fitting(self.n, self.m, self.i, self.n, k) {
-            let n = size_of(self.n);
-            let mut omega = kernel::from_flat(&self.omega);
-            information_steps::of_estimate(x, p, n, &mut omega, &mut self.xi)?;
-            self.omega = kernel::to_flat(&omega);
-            Ok(())
-        } else {
-            Err(Refusal::WrongSize)
-        }
+        let (n, _, _) = steps::fitted(self.n, self.m, self.i, self.n, k)?;
+        let mut omega = kernel::from_flat(&self.omega);
+        information_steps::of_estimate(x, p, n, &mut omega, &mut self.xi)?;
+        self.omega = kernel::to_flat(&omega);
+        Ok(())
     }
 }
 
 // ---- the methods by value
 
 impl InformationFilter {
-    // One step on, with the input u of k numbers. Refused with 1: a size of the record, or k is not i; with 3: inversion
-    // rejects omega, or the predicted covariance.
+    // One step on, with the input u of k numbers. Refused as a wrong size: a size of the record, or k is not i; as singular:
+    // inversion rejects omega, or the predicted covariance.
     pub fn predict(self, u: [f64; 4], k: usize) -> Step<(), InformationFilter>
         ensures { result ≡ stepped self (predicting self u k) }
     {
@@ -132,8 +111,8 @@ impl InformationFilter {
         Step { answer, left }
     }
 
-    // Updated by the measurement z of k numbers; the innovation is z less H times the state after. Refused with 1: a size, or
-    // k is not m; with 3: inversion rejects r, and nothing changes, or the new omega, and the addition stays.
+    // Updated by the measurement z of k numbers; the innovation is z less H times the state after. Refused as a wrong size: a
+    // size, or k is not m; as singular: inversion rejects r, and nothing changes, or the new omega, and the addition stays.
     pub fn update(self, z: [f64; 4], k: usize) -> Step<[f64; 4], InformationFilter>
         ensures { result ≡ update_of self z k }
     {
@@ -146,21 +125,17 @@ impl InformationFilter {
     pub fn update_one(self, z: f64) -> Step<f64, InformationFilter>
         ensures { result ≡ update_one_of self z }
     {
-        let u = self.update([z, 0.0, 0.0, 0.0], 1);
-        let left = u.left;
-        match u.answer {
-            Ok(y) => Step {
-                answer: Ok(y[0]),
-                left,
-            },
-            Err(refusal) => Step {
-                answer: Err(refusal),
-                left,
-            },
+        let Step { answer, left } = self.update([z, 0.0, 0.0, 0.0], 1);
+        let first = |y: [f64; 4]| -> f64
+            ensures { result ≡ at y 0 }
+        { y[0] };
+        Step {
+            answer: answer.map(first),
+            left,
         }
     }
 
-    // One sensor's addition. Refused with 1: a size of the record, or the sensor's sizes are not the filter's.
+    // One sensor's addition. Refused as a wrong size: a size of the record, or the sensor's sizes are not the filter's.
     pub fn fuse_sensor(self, s: Sensor) -> Step<(), InformationFilter>
         ensures { result ≡ stepped self (fusing self s) }
     {
@@ -169,60 +144,43 @@ impl InformationFilter {
         Step { answer, left }
     }
 
-    // The state, of n numbers. Refused with 1: a size of the record; with 3: inversion rejects omega.
+    // The state, of n numbers. Refused as a wrong size: a size of the record; as singular: inversion rejects omega.
     pub fn state(self) -> Result<[f64; 4], Refusal>
         ensures { result ≡ state_of self }
     {
-        let n = self.n;
-        if is_well_sized(n, self.m, self.i) {
-            let rows = kernel::from_flat(&self.omega);
-            information_steps::state(&rows, &self.xi, size_of(n))
-        } else {
-            Err(Refusal::WrongSize)
-        }
+        let (n, _, _) = steps::sized(self.n, self.m, self.i)?;
+        let omega = kernel::from_flat(&self.omega);
+        information_steps::state(&omega, &self.xi, n)
     }
 
-    // The covariance, n by n: omega inverted. Refused with 1 and 3, as the state.
+    // The covariance, n by n: omega inverted. Refused as the state.
     pub fn covariance(self) -> Result<[[f64; 4]; 4], Refusal>
         ensures { result ≡ covariance_of self }
     {
-        let n = self.n;
-        if is_well_sized(n, self.m, self.i) {
-            let rows = kernel::from_flat(&self.omega);
-            inverse::inverse_of(&rows, size_of(n))
-        } else {
-            Err(Refusal::WrongSize)
-        }
+        let (n, _, _) = steps::sized(self.n, self.m, self.i)?;
+        let omega = kernel::from_flat(&self.omega);
+        inverse::inverse_of(&omega, n)
     }
 
-    // Omega, n by n. Refused with 1: a size of the record.
+    // Omega, n by n. Refused as a wrong size: a size of the record.
     pub fn information_matrix(self) -> Result<[[f64; 4]; 4], Refusal>
         ensures { result ≡ matrix_of self }
     {
-        let n = self.n;
-        if is_well_sized(n, self.m, self.i) {
-            let s = size_of(n);
-            let rows = kernel::from_flat(&self.omega);
-            Ok(rows::used_part(&rows, s, s))
-        } else {
-            Err(Refusal::WrongSize)
-        }
+        let (n, _, _) = steps::sized(self.n, self.m, self.i)?;
+        let omega = kernel::from_flat(&self.omega);
+        Ok(rows::used_part(&omega, n, n))
     }
 
-    // Xi, n numbers. Refused with 1: a size of the record.
+    // Xi, n numbers. Refused as a wrong size: a size of the record.
     pub fn information_vector(self) -> Result<[f64; 4], Refusal>
         ensures { result ≡ vector_of self }
     {
-        if is_well_sized(self.n, self.m, self.i) {
-            let xi = self.xi;
-            Ok(rows::leading(xi, size_of(self.n)))
-        } else {
-            Err(Refusal::WrongSize)
-        }
+        let (n, _, _) = steps::sized(self.n, self.m, self.i)?;
+        Ok(rows::leading(self.xi, n))
     }
 
-    // The state x and the covariance p of k states in place of the filter's. Refused with 1: a size of the record, or k is not
-    // n; with 3: inversion rejects p.
+    // The state x and the covariance p of k states in place of the filter's. Refused as a wrong size: a size of the record, or k
+    // is not n; as singular: inversion rejects p.
     pub fn reset(self, x: [f64; 4], p: [[f64; 4]; 4], k: usize) -> Step<(), InformationFilter>
         ensures { result ≡ stepped self (resetting self x p k) }
     {
@@ -231,7 +189,7 @@ impl InformationFilter {
         Step { answer, left }
     }
 
-    // The filter of a model, omega and xi, given by the used parts of arrays of rows. Refused with 1: a size.
+    // The filter of a model, omega and xi, given by the used parts of arrays of rows. Refused as a wrong size.
     pub fn from_information(
         n: usize,
         m: usize,
@@ -246,28 +204,23 @@ impl InformationFilter {
     ) -> Result<InformationFilter, Refusal>
         ensures { result ≡ from_information_of (motion_from n i a b q) (sensor_from n m h r) (information_from n omega0 xi0) }
     {
-        if is_well_sized(n, m, i) {
-            let sn = size_of(n);
-            let sm = size_of(m);
-            Ok(InformationFilter {
-                n,
-                m,
-                i,
-                a: kernel::flat_part(&a, sn, sn),
-                b: kernel::flat_part(&b, sn, size_of(i)),
-                h: kernel::flat_part(&h, sm, sn),
-                q: kernel::flat_part(&q, sn, sn),
-                r: kernel::flat_part(&r, sm, sm),
-                omega: kernel::flat_part(&omega0, sn, sn),
-                xi: rows::leading(xi0, sn),
-            })
-        } else {
-            Err(Refusal::WrongSize)
-        }
+        let (sn, sm, si) = steps::sized(n, m, i)?;
+        Ok(InformationFilter {
+            n,
+            m,
+            i,
+            a: kernel::flat_part(&a, sn, sn),
+            b: kernel::flat_part(&b, sn, si),
+            h: kernel::flat_part(&h, sm, sn),
+            q: kernel::flat_part(&q, sn, sn),
+            r: kernel::flat_part(&r, sm, sm),
+            omega: kernel::flat_part(&omega0, sn, sn),
+            xi: rows::leading(xi0, sn),
+        })
     }
 
-    // The filter of a model and an estimate: omega is p0 inverted, and xi is omega times x0. Refused with 1: a size; with 3:
-    // inversion rejects p0.
+    // The filter of a model and an estimate: omega is p0 inverted, and xi is omega times x0. Refused as a wrong size; as
+    // singular: inversion rejects p0.
     pub fn new(
         n: usize,
         m: usize,
@@ -282,13 +235,10 @@ impl InformationFilter {
     ) -> Result<InformationFilter, Refusal>
         ensures { result ≡ new_of (motion_from n i a b q) (sensor_from n m h r) (estimate_from n x0 p0) }
     {
-        if is_well_sized(n, m, i) {
-            let mut omega = [[0.0; 4]; 4];
-            let mut xi = [0.0; 4];
-            information_steps::of_estimate(&x0, &p0, size_of(n), &mut omega, &mut xi)?;
-            InformationFilter::from_information(n, m, i, a, b, h, q, r, omega, xi)
-        } else {
-            Err(Refusal::WrongSize)
-        }
+        let (sn, _, _) = steps::sized(n, m, i)?;
+        let mut omega = [[0.0; 4]; 4];
+        let mut xi = [0.0; 4];
+        information_steps::of_estimate(&x0, &p0, sn, &mut omega, &mut xi)?;
+        InformationFilter::from_information(n, m, i, a, b, h, q, r, omega, xi)
     }
 }

@@ -84,7 +84,7 @@ module _ (o : Pair) {r : Answer Pair} (er : mapped information_of r ≡ of_estim
         ap (λ (z : Answer Pair). into (mapped information_of z)) p
         ∙ sym (predict_by (motion_of f) (u ∷ []) (information_of o) (refused_is (estimate_of o).state (matrix_of o.p) (as_none d)))
 
--- ---- an update: n has what the addition made, and r is its estimate
+-- ---- an update: n has what the addition made, and r is the estimate of it
 module _ (f : Sensor) (w z : Float) (o : Pair) where
   abbrev outcome : Answer Float × Information
   outcome = updated_of (information_of o) (update_by (sensor_of f) (z ∷ []) (information_of o) ((w ∷ []) ∷ []))
@@ -93,18 +93,16 @@ module _ (f : Sensor) (w z : Float) (o : Pair) where
   abbrev by : Information → Answer Matrix → Answer Float × Information
   by l a = updated_of (information_of o) (record { told = mapped (λ x. innovation 1 2 (sensor_of f).h x (z ∷ [])) (mapped (λ P. matvec 2 2 P l.vector) a); left = this l })
 
-  module _ (n : Pair) {r : Answer Pair} (en : information_of n ≡ informed 2 1 (sensor_of f).h ((w ∷ []) ∷ []) (z ∷ []) (information_of o))
-      (er : mapped information_of r ≡ of_estimate 2 (estimate_of n)) where
-    pub told-after : {e : Pair} → r ≡ Ok e → (Ok (z ⊖ (+0 ⊕ f.h0 ⊗ e.x0 ⊕ f.h1 ⊗ e.x1)), information_of n) ≡ outcome
-    unfolding innovation vec_sub matvec sum_from state covariance
-    told-after d =
-        let x = vector_is (estimate_of n).state (matrix_of n.p) (as_pair n er d) in
-        (λ t. (Ok (z ⊖ (+0 ⊕ f.h0 ⊗ at (x t) 0 ⊕ f.h1 ⊗ at (x t) 1)), information_of n))
-        ∙ sym (ap (by (information_of n)) (answered_is (estimate_of n).state (matrix_of n.p) (as_pair n er d)))
-        ∙ λ t. by (en t) (inv 2 (en t).matrix)
+  -- the innovation of the estimate that was told
+  abbrev pub innovated : Answer Pair → Answer Float
+  innovated r = mapped (λ e. z ⊖ (+0 ⊕ f.h0 ⊗ e.x0 ⊕ f.h1 ⊗ e.x1)) r
 
-    pub refused-after : {k : Refusal} → r ≡ Err k → (Err k, information_of n) ≡ outcome
-    unfolding state covariance
-    refused-after d =
-        sym (ap (by (information_of n)) (refused_is (estimate_of n).state (matrix_of n.p) (as_none n er d)))
-        ∙ λ t. by (en t) (inv 2 (en t).matrix)
+  pub updated : (n : Pair) (r : Answer Pair) → information_of n ≡ informed 2 1 (sensor_of f).h ((w ∷ []) ∷ []) (z ∷ []) (information_of o)
+      → mapped information_of r ≡ of_estimate 2 (estimate_of n) → (innovated r, information_of n) ≡ outcome
+  unfolding innovation vec_sub matvec sum_from state covariance
+  updated n (Ok e) en er =
+      let x = vector_is (estimate_of n).state (matrix_of n.p) er in
+      (λ t. (Ok (z ⊖ (+0 ⊕ f.h0 ⊗ at (x t) 0 ⊕ f.h1 ⊗ at (x t) 1)), information_of n))
+      ∙ sym (ap (by (information_of n)) (answered_is (estimate_of n).state (matrix_of n.p) er))
+      ∙ λ t. by (en t) (inv 2 (en t).matrix)
+  updated n (Err k) en er = sym (ap (by (information_of n)) (refused_is (estimate_of n).state (matrix_of n.p) er)) ∙ λ t. by (en t) (inv 2 (en t).matrix)

@@ -13,8 +13,8 @@ ghost use Rattle.information_road.specs.Road.{information_of, updated_of};
 use answer::{Refusal, Step};
 use road::{Motion, Pair, Sensor, Two};
 
-// Of the estimate e: omega is p inverted, and xi is omega times x. Refused with 3: inversion rejects p. An estimate comes of xi
-// and omega in the same way.
+// Of the estimate e: omega is p inverted, and xi is omega times x. Refused as singular: inversion rejects p. An estimate comes
+// of xi and omega in the same way.
 pub fn of_estimate(e: Pair) -> Result<Pair, Refusal>
     ensures { mapped information_of result ≡ of_estimate 2 (estimate_of e) }
 {
@@ -26,7 +26,7 @@ pub fn of_estimate(e: Pair) -> Result<Pair, Refusal>
     })
 }
 
-// One step on, with the input u. Refused with 3: inversion rejects omega, or the predicted covariance.
+// One step on, with the input u. Refused as singular: inversion rejects omega, or the predicted covariance.
 pub fn predict(motion: Motion, u: f64, o: Pair) -> Result<Pair, Refusal>
     ensures { into (mapped information_of result) ≡ predict_of (motion_of motion) (u ∷ []) (information_of o) }
 {
@@ -57,16 +57,13 @@ pub fn inform(sensor: Sensor, w: f64, z: f64, o: Pair) -> Pair
 }
 
 // Updated by the measurement z, where w is the inverted noise: the addition stays whatever is told. The innovation is z less H
-// times the state after the addition. Refused with 3: inversion rejects the omega that the addition made.
+// times the state after the addition. Refused as singular: inversion rejects the omega that the addition made.
 pub fn update_by(sensor: Sensor, w: f64, z: f64, o: Pair) -> Step<f64, Pair>
     ensures { (result.answer, information_of result.left)
         ≡ updated_of (information_of o) (update_by (sensor_of sensor) (z ∷ []) (information_of o) ((w ∷ []) ∷ [])) }
 {
     let added = inform(sensor, w, z, o);
-    let answer = match of_estimate(added) {
-        Ok(e) => Ok(z - (0.0 + sensor.h0 * e.x0 + sensor.h1 * e.x1)),
-        Err(refusal) => Err(refusal),
-    };
+    let answer = of_estimate(added).map(|e| z - (0.0 + sensor.h0 * e.x0 + sensor.h1 * e.x1));
     Step {
         answer,
         left: added,

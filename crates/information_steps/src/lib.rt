@@ -5,7 +5,7 @@
 
 ghost use Rattle.std.specs.Prelude.{◌≡◌, []};
 ghost use Rattle.answer.specs.Outcome.{into, handed};
-ghost use Rattle.algebra.specs.Array.{pad_row, pad, used};
+ghost use Rattle.algebra.specs.Array.{pad_row, pad};
 ghost use Rattle.sizes.specs.Size.{count, front, part};
 ghost use Rattle.matrix.specs.Result.{as_vector};
 ghost use Rattle.filtering.specs.Information.{informed, of_estimate, state as state_of, predict as predict_of};
@@ -17,24 +17,28 @@ use sizes::Size;
 
 // ---- what is measured is added, for an H of m rows and n columns and the inverted noise W
 
-// Omega + (Hᵀ W) H for four states and two measurements, written out
-fn informed_four<'a>(
+// Omega + (Hᵀ W) H, for all sizes. Compiled into its caller: where the sizes are literals, a compiler leaves out their tests.
+#[inline(always)]
+fn informed_rows<'a>(
     omega: &'a [[f64; 4]; 4],
     h: &'a [[f64; 4]; 4],
     w: &'a [[f64; 4]; 4],
+    n: Size,
+    m: Size,
 ) -> [[f64; 4]; 4]
-    ensures { result ≡ pad (informed 4 2 (used 2 4 h.now) (used 2 2 w.now) [] (information_rows Size.Four omega.now [])).matrix }
+    ensures { result
+        ≡ pad (informed (count n) (count m) (part m n h.now) (part m m w.now) [] (information_rows n omega.now [])
+        ).matrix }
 {
-    let ht = rows::transposed(h, Size::Two, Size::Four);
-    let s0 = rows::row_product(rows::row_product(ht[0], w, Size::Two), h, Size::Two);
-    let s1 = rows::row_product(rows::row_product(ht[1], w, Size::Two), h, Size::Two);
-    let s2 = rows::row_product(rows::row_product(ht[2], w, Size::Two), h, Size::Two);
-    let s3 = rows::row_product(rows::row_product(ht[3], w, Size::Two), h, Size::Two);
-    let r0 = rows::leading(rows::row_sum(omega[0], s0), Size::Four);
-    let r1 = rows::leading(rows::row_sum(omega[1], s1), Size::Four);
-    let r2 = rows::leading(rows::row_sum(omega[2], s2), Size::Four);
-    let r3 = rows::leading(rows::row_sum(omega[3], s3), Size::Four);
-    [r0, r1, r2, r3]
+    let ht = rows::transposed(h, m, n);
+    let mut out = [[0.0; 4]; 4];
+    // The index is a row of the transposed H, of omega and of the result.
+    for i in 0..usize::from(n) {
+        let htw = rows::row_product(ht[i], w, m);
+        let htwh = rows::row_product(htw, h, m);
+        out[i] = rows::leading(rows::row_sum(omega[i], htwh), n);
+    }
+    out
 }
 
 // Omega + (Hᵀ W) H
@@ -49,20 +53,11 @@ pub fn informed_matrix<'a>(
         ≡ pad (informed (count n) (count m) (part m n h.now) (part m m w.now) [] (information_rows n omega.now [])
         ).matrix }
 {
-    let rows = usize::from(n);
-    if rows == 4 {
-        if usize::from(m) == 2 {
-            return informed_four(omega, h, w);
-        }
+    if let (Size::Four, Size::Two) = (n, m) {
+        informed_rows(omega, h, w, Size::Four, Size::Two)
+    } else {
+        informed_rows(omega, h, w, n, m)
     }
-    let ht = rows::transposed(h, m, n);
-    let mut out = [[0.0; 4]; 4];
-    for i in 0..rows {
-        let htw = rows::row_product(ht[i], w, m);
-        let htwh = rows::row_product(htw, h, m);
-        out[i] = rows::leading(rows::row_sum(omega[i], htwh), n);
-    }
-    out
 }
 
 // Xi + Hᵀ (W z)
@@ -85,6 +80,7 @@ pub fn informed_vector<'a>(
 }
 
 // One sensor's addition: h, its inverted noise w, and what it measured, z.
+#[tactic(auto, unfolding(filtering::specs::Information::informed))]
 pub fn inform<'a>(
     h: &'a [[f64; 4]; 4],
     w: &'a [[f64; 4]; 4],
@@ -104,7 +100,7 @@ pub fn inform<'a>(
 
 // ---- from an estimate, and back
 
-// Of the state x and its covariance p: omega is p inverted, and xi is omega times x. Refused with 3: inversion rejects p.
+// Of the state x and its covariance p: omega is p inverted, and xi is omega times x. Refused as singular: inversion rejects p.
 pub fn of_estimate<'a>(
     x: &'a [f64; 4],
     p: &'a [[f64; 4]; 4],
@@ -122,7 +118,7 @@ pub fn of_estimate<'a>(
     Ok(())
 }
 
-// The state: omega inverted, times xi. Refused with 3: inversion rejects omega.
+// The state: omega inverted, times xi. Refused as singular: inversion rejects omega.
 pub fn state<'a>(omega: &'a [[f64; 4]; 4], xi: &'a [f64; 4], n: Size) -> Result<[f64; 4], Refusal>
     ensures { result ≡ as_vector (state_of (count n) (information_rows n omega.now xi.now)) }
 {
@@ -132,7 +128,7 @@ pub fn state<'a>(omega: &'a [[f64; 4]; 4], xi: &'a [f64; 4], n: Size) -> Result<
 
 // ---- the steps
 
-// Omega and xi one step on, with the input u. Refused with 3, and nothing changes: inversion rejects omega, or the predicted
+// Omega and xi one step on, with the input u. Refused as singular, and nothing changes: inversion rejects omega, or the predicted
 // covariance.
 pub fn predict<'a>(
     a: &'a [[f64; 4]; 4],
@@ -157,7 +153,7 @@ pub fn predict<'a>(
 }
 
 // Updated by the measurement z, where w is the inverted noise: the addition stays whatever is told. The innovation is z less H
-// times the state after the addition. Refused with 3: inversion rejects the omega that the addition made.
+// times the state after the addition. Refused as singular: inversion rejects the omega that the addition made.
 pub fn update_by<'a>(
     h: &'a [[f64; 4]; 4],
     w: &'a [[f64; 4]; 4],

@@ -1,57 +1,42 @@
--- `information_covariance` meets its contract: by the test of the slices, and by what is told.
-use native.Mathlib.Omega.{arith}
-use mathlib.Core.Path.{sym, ap, ◌∙◌}
-use mathlib.Core.Bool.{Bool}
-use mathlib.Core.List.{List}
-use Prim.Native.Nat.{ℕ}
-use lib.Ieee.{Float}
-use Rattle.answer.specs.Answer.{mapped, if_sized}
-use Rattle.answer.specs.Told.{given}
+-- `information_covariance` meets its contract: by what the inversion answers.
+use mathlib.Core.Path.{◌≡◌, refl, ap, ◌∙◌}
+use lib.ListN.{length}
+use Rattle.std.proofs.Common.{rules}
+use Rattle.std.specs.Prelude.{Err}
+use Rattle.answer.specs.Answer.{mapped}
+use Rattle.answer.specs.Told.{written}
+use Rattle.algebra.specs.Array.{pad}
 use Rattle.algebra.specs.Inverse.{inv}
 use Rattle.algebra.proofs.Inverses.{inv-shape}
 use Rattle.matrix.specs.Result.{as_matrix}
-use Rattle.sizes.proofs.Sizes.{is_count}
+use Rattle.matrix.proofs.Results.{if_answered}
 use Rattle.filtering.specs.Information.{covariance}
-use Rattle.layout.specs.Layout.{joined, filter_parts}
-use Rattle.layout.proofs.Calls.{part-read}
-use Rattle.steps.proofs.Sizes.{well_sized_lem}
-use Rattle.c_copies.specs.declared.Places.{Places}
-use Rattle.c_copies.proofs.Filters.{places_are, step_of, square-step}
+use Rattle.layout.specs.Layout.{joined}
+use Rattle.c_copies.proofs.Filters.{filter_given, length_given, square-passed}
+use Rattle.c_copies.proofs.Steps.{square-read}
 use Rattle.c_information.specs.Information.{information_at}
-use Rattle.c_information.proofs.Calls.{matrix-written, matrix-refused}
+use Rattle.c_information.proofs.Calls.{matrix-written, refused-as}
 use Rattle.c_information.proofs.information_covariance.Goals as goal
 
--- by the test of the sizes
-abbrev by : ℕ → ℕ → ℕ → List Float → List Float → Bool → ℕ × List Float
-by n m i f o t = given o (if_sized t (mapped joined (covariance n (information_at n m i f))))
-
-pub returns-in-Ok : goal.returns-in-Ok
+pub returns-in_err-p : goal.returns-in_err-p
 unfolding covariance
-returns-in-Ok c =
+returns-in_err-p c =
     let a = c.args in
-    let e = sym (c.is_step.ensures ∙ square-step a.n a.m a.i _ c.place_parts-at.ensures _) ∙ c.if-is_step.true in
-    let s = step_of a.n a.m a.i _ _ _ e in
-    let L = places_are a.n a.m a.i s.whole.sizes c.place_parts-at.ensures in
-    let N = is_count (well_sized_lem _ _ _ s.whole.sizes).states c.size_of-sn.ensures in
-    let O = part-read (filter_parts a.n a.m a.i) a.filter.now 6 (omega (arith, s.whole.long)) (omega arith) N N (ap (λ (z : Places). z.p) L) c.matrix_at-omega.ensures in
-    matrix-written c.size_of-sn.result N (inv a.n (information_at a.n a.m a.i a.filter.now).matrix) a.out.now (c.inverse_of.ensures ∙ λ j. as_matrix (inv (N j) (O j)))
-    (inv-shape _ _) s.same c.in-Ok.is c.put_matrix.ensures
-    ∙ ap (by a.n a.m a.i a.filter.now a.out.now) (sym e)
+    let f = a.filter.now in
+    let s = filter_given (λ m. m) a.n a.m a.i (length f) c.in_ok-at.ensures in
+    let O = square-read f s.at c.matrix_at-omega.ensures in
+    let e : c.from_residual-in_err-p.result ≡ Err c.in_err-p.field-0.0 = search rules in
+    if_answered (written a.out.now) _ (square-passed (λ m. m) a.n a.m a.i (length f) s.passed s.at.square (length_given c.in_ok-fits.ensures))
+    (refused-as pad (λ b. written a.out.now (mapped joined b)) (inv a.n (information_at a.n a.m a.i f).matrix) a.out.now (c.in_err-p.ensures ∙ λ t. as_matrix (inv (s.at.states t) (O t))) e refl)
 
-pub returns-in-Err : goal.returns-in-Err
+pub returns : goal.returns
 unfolding covariance
-returns-in-Err c =
+returns c =
     let a = c.args in
-    let e = sym (c.is_step.ensures ∙ square-step a.n a.m a.i _ c.place_parts-at.ensures _) ∙ c.if-is_step.true in
-    let s = step_of a.n a.m a.i _ _ _ e in
-    let L = places_are a.n a.m a.i s.whole.sizes c.place_parts-at.ensures in
-    let N = is_count (well_sized_lem _ _ _ s.whole.sizes).states c.size_of-sn.ensures in
-    let O = part-read (filter_parts a.n a.m a.i) a.filter.now 6 (omega (arith, s.whole.long)) (omega arith) N N (ap (λ (z : Places). z.p) L) c.matrix_at-omega.ensures in
-    (λ t. (c.from.ensures t, a.out.now))
-    ∙ matrix-refused c.size_of-sn.result N (inv a.n (information_at a.n a.m a.i a.filter.now).matrix) a.out.now (c.inverse_of.ensures ∙ λ j. as_matrix (inv (N j) (O j))) c.in-Err.is
-    ∙ ap (by a.n a.m a.i a.filter.now a.out.now) (sym e)
-
-pub returns-else-is_step : goal.returns-else-is_step
-returns-else-is_step c =
-    let a = c.args in
-    ap (by a.n a.m a.i a.filter.now a.out.now) (sym (sym (c.is_step.ensures ∙ square-step a.n a.m a.i _ c.place_parts-at.ensures _) ∙ c.if-is_step.false))
+    let f = a.filter.now in
+    let s = filter_given (λ m. m) a.n a.m a.i (length f) c.in_ok-at.ensures in
+    let l = length_given c.in_ok-fits.ensures in
+    let O = square-read f s.at c.matrix_at-omega.ensures in
+    if_answered (written a.out.now) _ (square-passed (λ m. m) a.n a.m a.i (length f) s.passed s.at.square l)
+    (ap (written a.out.now) (matrix-written _ s.at.states (inv a.n (information_at a.n a.m a.i f).matrix) a.out.now (c.in_ok-p.ensures ∙ λ t. as_matrix (inv (s.at.states t) (O t)))
+    (inv-shape _ _) (l ∙ s.at.square) c.put_matrix.ensures))

@@ -1,58 +1,36 @@
--- `information_new` meets its contract: by the test of the slices, and by what is told of the estimate.
-use mathlib.Core.Path.{sym, ap, ◌∙◌}
+-- `information_new` meets its contract: by what the estimate is told as.
+use mathlib.Core.Path.{◌≡◌, refl, ap, ◌∙◌}
+use mathlib.Core.List.{[], ◌∷◌}
 use mathlib.Core.Bool.{Bool}
-use mathlib.Core.List.{List, [], ◌∷◌}
-use Prim.Native.Nat.{ℕ}
-use lib.Ieee.{Float}
-use Rattle.answer.specs.Answer.{Answer, mapped, if_sized, where_sized}
-use Rattle.answer.specs.Outcome.{into, handed}
-use Rattle.answer.specs.Told.{given}
-use Rattle.algebra.specs.Array.{pad_row, pad}
-use Rattle.sizes.proofs.Sizes.{is_count}
-use Rattle.filtering.specs.Information.{Information}
+use lib.ListN.{length}
+use Rattle.std.proofs.Common.{rules}
+use Rattle.std.specs.Prelude.{Err}
+use Rattle.answer.specs.Answer.{mapped, where_sized}
+use Rattle.answer.specs.Told.{written}
+use Rattle.matrix.proofs.Results.{if_answered}
 use Rattle.layout.specs.Layout.{joined}
-use Rattle.steps.proofs.Sizes.{well_sized_lem}
 use Rattle.information_steps.specs.Step.{arrays_of}
-use Rattle.c_copies.proofs.Filters.{places_are, given_of}
+use Rattle.c_copies.proofs.Filters.{parts_given}
 use Rattle.c_information.specs.Information.{with_information, of_estimate_at}
-use Rattle.c_information.proofs.Calls.{estimate-given, new-made, new-refused}
+use Rattle.c_information.proofs.Calls.{estimate-given, answered-left, refused-left, new-made, refused-as}
 use Rattle.c_information.proofs.information_new.Goals as goal
 
--- by the test of the sizes, with all parts one after another
-abbrev by : ℕ → ℕ → ℕ → List Float → List Float → List Float → List Float → Bool → ℕ × List Float
-by n m i f parts x p t = given f (if_sized t (mapped (with_information n m i parts) (of_estimate_at n x p)))
-
-pub returns-in-Ok : goal.returns-in-Ok
-unfolding pad
-returns-in-Ok c =
+pub returns-in_err-of_estimate : goal.returns-in_err-of_estimate
+returns-in_err-of_estimate c =
     let a = c.args in
-    let t = sym c.is_parts.ensures ∙ c.if-is_parts.true in
-    let s = given_of _ _ _ _ _ _ _ _ _ _ _ t in
+    let f = a.filter.now in
     let all = joined (a.a.now ∷ a.b.now ∷ a.h.now ∷ a.q.now ∷ a.r.now ∷ a.x0.now ∷ a.p0.now ∷ []) in
-    let L = places_are a.n a.m a.i s.whole.sizes c.place_parts-at.ensures in
-    let N = is_count (well_sized_lem _ _ _ s.whole.sizes).states c.size_of-sn.ensures in
-    let E = estimate-given c.size_of-sn.result N a.x0.now a.p0.now s.sixth s.last c.vector_at-x.ensures c.matrix_at-p.ensures in
-    let g = c.of_estimate.ensures ∙ ap (λ (o : Answer Information). handed (λ t. t) arrays_of (pad [], pad_row []) (into o)) E in
-    let made = c.kalman_new.ensures ∙ ap (λ (b : Bool). given a.filter.now (where_sized b all)) t in
-    new-made a.filter.now s (pad []) (pad_row []) g c.size_of-sn.ensures L c.in-Ok.is (λ j. (made j).1) c.put_pair.ensures
-    ∙ ap (by a.n a.m a.i a.filter.now all a.x0.now a.p0.now) (sym t)
+    let s = parts_given (λ m. m) a.n a.m a.i (length f) a.a.now a.b.now a.h.now a.q.now a.r.now a.x0.now a.p0.now c.in_ok-at.ensures in
+    let e : c.from_residual-in_err-of_estimate.result ≡ Err c.in_err-of_estimate.field-0.0 = search rules in
+    let o = refused-left arrays_of _ _ c.in_err-of_estimate.ensures ∙ ap (mapped arrays_of) (estimate-given _ s.at.states a.x0.now a.p0.now s.sixth s.last) in
+    if_answered (written f) _ s.passed (refused-as arrays_of (λ b. written f (mapped (with_information a.n a.m a.i all) b)) (of_estimate_at a.n a.x0.now a.p0.now) f o e refl)
 
-pub returns-in-Err : goal.returns-in-Err
-unfolding pad
-returns-in-Err c =
+pub returns : goal.returns
+returns c =
     let a = c.args in
-    let t = sym c.is_parts.ensures ∙ c.if-is_parts.true in
-    let s = given_of _ _ _ _ _ _ _ _ _ _ _ t in
+    let f = a.filter.now in
     let all = joined (a.a.now ∷ a.b.now ∷ a.h.now ∷ a.q.now ∷ a.r.now ∷ a.x0.now ∷ a.p0.now ∷ []) in
-    let N = is_count (well_sized_lem _ _ _ s.whole.sizes).states c.size_of-sn.ensures in
-    let E = estimate-given c.size_of-sn.result N a.x0.now a.p0.now s.sixth s.last c.vector_at-x.ensures c.matrix_at-p.ensures in
-    let g = c.of_estimate.ensures ∙ ap (λ (o : Answer Information). handed (λ t. t) arrays_of (pad [], pad_row []) (into o)) E in
-    (λ t. (c.from.ensures t, a.filter.now))
-    ∙ new-refused a.filter.now s (pad []) (pad_row []) g c.in-Err.is
-    ∙ ap (by a.n a.m a.i a.filter.now all a.x0.now a.p0.now) (sym t)
-
-pub returns-else-is_parts : goal.returns-else-is_parts
-returns-else-is_parts c =
-    let a = c.args in
-    let all = joined (a.a.now ∷ a.b.now ∷ a.h.now ∷ a.q.now ∷ a.r.now ∷ a.x0.now ∷ a.p0.now ∷ []) in
-    ap (by a.n a.m a.i a.filter.now all a.x0.now a.p0.now) (sym (sym c.is_parts.ensures ∙ c.if-is_parts.false))
+    let s = parts_given (λ m. m) a.n a.m a.i (length f) a.a.now a.b.now a.h.now a.q.now a.r.now a.x0.now a.p0.now c.in_ok-at.ensures in
+    let o = answered-left arrays_of _ _ c.in_ok-of_estimate.ensures ∙ ap (mapped arrays_of) (estimate-given _ s.at.states a.x0.now a.p0.now s.sixth s.last) in
+    let copied = c.in_ok-copy_in.ensures ∙ ap (λ (b : Bool). written f (where_sized b all)) s.passed in
+    if_answered (written f) _ s.passed (ap (written f) (new-made f s o (λ t. (copied t).1) c.put_pair.ensures))

@@ -1,55 +1,34 @@
--- `information_reset` meets its contract: by the test of the slices, and by what is told.
-use mathlib.Core.Path.{refl, sym, ap, ◌∙◌}
-use mathlib.Core.Bool.{Bool}
-use mathlib.Core.List.{List, []}
-use Prim.Native.Nat.{ℕ}
-use lib.Ieee.{Float}
-use Rattle.answer.specs.Answer.{Answer}
-use Rattle.answer.specs.Outcome.{into, if_fitting, handed}
-use Rattle.algebra.specs.Array.{pad_row, pad}
-use Rattle.sizes.proofs.Sizes.{is_count}
-use Rattle.filtering.specs.Information.{Information}
-use Rattle.steps.proofs.Sizes.{well_sized_lem}
+-- `information_reset` meets its contract: by what the estimate is told as.
+use mathlib.Core.Path.{◌≡◌, refl, ap, ◌∙◌}
+use lib.ListN.{length}
+use Rattle.std.proofs.Common.{rules}
+use Rattle.std.specs.Prelude.{Err}
+use Rattle.answer.specs.Answer.{mapped}
+use Rattle.answer.specs.Outcome.{into}
+use Rattle.answer.specs.Told.{written}
 use Rattle.information_steps.specs.Step.{arrays_of}
-use Rattle.information_steps.proofs.Ways.{plain-estimate}
-use Rattle.c_copies.proofs.Filters.{places_are, with-tested, with-step, with-room, square-with}
+use Rattle.c_copies.proofs.Filters.{step_given, length_given, with-passed}
 use Rattle.c_information.specs.Information.{of_estimate_at, stepped_in}
-use Rattle.c_information.proofs.Calls.{estimate-given, stepped, stopped}
+use Rattle.c_information.proofs.Calls.{estimate-given, answered-left, refused-left, made, refused-as, fitted-step, written-stepped}
 use Rattle.c_information.proofs.information_reset.Goals as goal
 
--- by the test of the sizes
-abbrev by : ℕ → ℕ → ℕ → List Float → List Float → List Float → Bool → ℕ × List Float
-by n m i f x p t = stepped_in n m i f (if_fitting t (into (of_estimate_at n x p)))
-
-pub returns-in-Ok : goal.returns-in-Ok
-unfolding pad
-returns-in-Ok c =
+pub returns-in_err-of_estimate : goal.returns-in_err-of_estimate
+returns-in_err-of_estimate c =
     let a = c.args in
-    let e = sym (with-tested a.n a.m a.i _ a.n _ _ _ c.is_step.ensures c.both.ensures ∙ square-with a.n a.m a.i _ c.place_parts-at.ensures _ _ _) ∙ c.if-both.true in
-    let s = with-step a.n a.m a.i _ a.n _ _ _ e in
-    let L = places_are a.n a.m a.i s.whole.sizes c.place_parts-at.ensures in
-    let N = is_count (well_sized_lem _ _ _ s.whole.sizes).states c.size_of-sn.ensures in
-    let E = estimate-given c.size_of-sn.result N a.x0.now a.p0.now s.same (with-room a.n a.m a.i _ a.n _ _ _ e) c.vector_at-x.ensures c.matrix_at-p.ensures in
-    let g = c.of_estimate.ensures ∙ ap (λ (o : Answer Information). handed (λ t. t) arrays_of (pad [], pad_row []) (into o)) E in
-    stepped a.n a.m a.i a.filter.now s.whole c.size_of-sn.ensures refl L (pad []) (pad_row []) (plain-estimate _ _) g c.in-Ok.is c.put_pair.ensures
-    ∙ ap (by a.n a.m a.i a.filter.now a.x0.now a.p0.now) (sym e)
+    let f = a.filter.now in
+    let s = step_given (λ m. m) a.n a.m a.i (length f) a.n (length a.x0.now) c.in_ok-at.ensures in
+    let l = length_given c.in_ok-fits.ensures ∙ s.at.square in
+    let e : c.from_residual-in_err-of_estimate.result ≡ Err c.in_err-of_estimate.field-0.0 = search rules in
+    let o = refused-left arrays_of _ _ c.in_err-of_estimate.ensures ∙ ap (mapped arrays_of) (estimate-given _ s.at.states a.x0.now a.p0.now s.same l) in
+    fitted-step a.n a.m a.i f (into (of_estimate_at a.n a.x0.now a.p0.now)) (with-passed (λ m. m) a.n a.m a.i (length f) a.n (length a.x0.now) s.passed l)
+    (refused-as arrays_of (λ b. stepped_in a.n a.m a.i f (into b)) (of_estimate_at a.n a.x0.now a.p0.now) f o e refl)
 
-pub returns-in-Err : goal.returns-in-Err
-unfolding pad
-returns-in-Err c =
+pub returns : goal.returns
+returns c =
     let a = c.args in
-    let e = sym (with-tested a.n a.m a.i _ a.n _ _ _ c.is_step.ensures c.both.ensures ∙ square-with a.n a.m a.i _ c.place_parts-at.ensures _ _ _) ∙ c.if-both.true in
-    let s = with-step a.n a.m a.i _ a.n _ _ _ e in
-    let L = places_are a.n a.m a.i s.whole.sizes c.place_parts-at.ensures in
-    let N = is_count (well_sized_lem _ _ _ s.whole.sizes).states c.size_of-sn.ensures in
-    let E = estimate-given c.size_of-sn.result N a.x0.now a.p0.now s.same (with-room a.n a.m a.i _ a.n _ _ _ e) c.vector_at-x.ensures c.matrix_at-p.ensures in
-    let g = c.of_estimate.ensures ∙ ap (λ (o : Answer Information). handed (λ t. t) arrays_of (pad [], pad_row []) (into o)) E in
-    (λ t. (c.from.ensures t, a.filter.now))
-    ∙ stopped a.n a.m a.i a.filter.now s.whole c.size_of-sn.ensures refl L (pad []) (pad_row []) (plain-estimate _ _) g c.in-Err.is
-    ∙ ap (by a.n a.m a.i a.filter.now a.x0.now a.p0.now) (sym e)
-
-pub returns-else-both : goal.returns-else-both
-returns-else-both c =
-    let a = c.args in
-    ap (by a.n a.m a.i a.filter.now a.x0.now a.p0.now)
-    (sym (sym (with-tested a.n a.m a.i _ a.n _ _ _ c.is_step.ensures c.both.ensures ∙ square-with a.n a.m a.i _ c.place_parts-at.ensures _ _ _) ∙ c.if-both.false))
+    let f = a.filter.now in
+    let s = step_given (λ m. m) a.n a.m a.i (length f) a.n (length a.x0.now) c.in_ok-at.ensures in
+    let l = length_given c.in_ok-fits.ensures ∙ s.at.square in
+    let o = answered-left arrays_of _ _ c.in_ok-of_estimate.ensures ∙ ap (mapped arrays_of) (estimate-given _ s.at.states a.x0.now a.p0.now s.same l) in
+    fitted-step a.n a.m a.i f (into (of_estimate_at a.n a.x0.now a.p0.now)) (with-passed (λ m. m) a.n a.m a.i (length f) a.n (length a.x0.now) s.passed l)
+    (ap (written f) (made f s.at a.x0.now a.p0.now o c.put_pair.ensures) ∙ written-stepped a.n a.m a.i f (of_estimate_at a.n a.x0.now a.p0.now))

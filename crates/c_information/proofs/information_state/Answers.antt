@@ -1,48 +1,35 @@
--- `information_state` meets its contract: by the test of the slices, and by what is told.
-use mathlib.Core.Path.{refl, sym, ap, ◌∙◌}
-use mathlib.Core.Bool.{Bool}
-use mathlib.Core.List.{List}
-use Prim.Native.Nat.{ℕ}
-use lib.Ieee.{Float}
-use Rattle.answer.specs.Answer.{if_sized}
-use Rattle.answer.specs.Told.{given}
+-- `information_state` meets its contract: by what the state is told as.
+use mathlib.Core.Path.{◌≡◌, refl, ap, ◌∙◌}
+use lib.ListN.{length}
+use Rattle.std.proofs.Common.{rules}
+use Rattle.std.specs.Prelude.{Err}
+use Rattle.answer.specs.Told.{written}
+use Rattle.algebra.specs.Array.{pad_row}
 use Rattle.matrix.specs.Result.{as_vector}
-use Rattle.sizes.proofs.Sizes.{is_count}
+use Rattle.matrix.proofs.Results.{if_answered}
 use Rattle.filtering.specs.Information.{state}
-use Rattle.steps.proofs.Sizes.{well_sized_lem}
 use Rattle.information_steps.proofs.Ways.{length-state}
-use Rattle.c_copies.proofs.Filters.{places_are, step_of}
+use Rattle.c_copies.proofs.Filters.{step_given}
 use Rattle.c_information.specs.Information.{information_at}
-use Rattle.c_information.proofs.Calls.{information-read, vector-written, vector-refused}
+use Rattle.c_information.proofs.Calls.{information-read, vector-written, refused-as}
 use Rattle.c_information.proofs.information_state.Goals as goal
 
--- by the test of the sizes
-abbrev by : ℕ → ℕ → ℕ → List Float → List Float → Bool → ℕ × List Float
-by n m i f o t = given o (if_sized t (state n (information_at n m i f)))
-
-pub returns-in-Ok : goal.returns-in-Ok
-returns-in-Ok c =
+pub returns-in_err-x : goal.returns-in_err-x
+returns-in_err-x c =
     let a = c.args in
-    let e = sym c.is_step.ensures ∙ c.if-is_step.true in
-    let s = step_of a.n a.m a.i _ a.n _ e in
-    let L = places_are a.n a.m a.i s.whole.sizes c.place_parts-at.ensures in
-    let N = is_count (well_sized_lem _ _ _ s.whole.sizes).states c.size_of-sn.ensures in
-    let O = information-read a.n a.m a.i a.filter.now s.whole c.size_of-sn.ensures refl L c.vector_at-xi.ensures c.matrix_at-omega.ensures in
-    vector-written c.size_of-sn.result N (state a.n (information_at a.n a.m a.i a.filter.now)) a.out.now (c.state.ensures ∙ λ j. as_vector (state (N j) (O j)))
-    (λ y q. length-state _ _ q) s.same c.in-Ok.is c.put_vector.ensures
-    ∙ ap (by a.n a.m a.i a.filter.now a.out.now) (sym e)
+    let f = a.filter.now in
+    let s = step_given (λ m. m) a.n a.m a.i (length f) a.n (length a.out.now) c.in_ok-at.ensures in
+    let O = information-read f s.at c.vector_at-xi.ensures c.matrix_at-omega.ensures in
+    let e : c.from_residual-in_err-x.result ≡ Err c.in_err-x.field-0.0 = search rules in
+    if_answered (written a.out.now) _ s.passed
+    (refused-as pad_row (written a.out.now) (state a.n (information_at a.n a.m a.i f)) a.out.now (c.in_err-x.ensures ∙ λ t. as_vector (state (s.at.states t) (O t))) e refl)
 
-pub returns-in-Err : goal.returns-in-Err
-returns-in-Err c =
+pub returns : goal.returns
+returns c =
     let a = c.args in
-    let e = sym c.is_step.ensures ∙ c.if-is_step.true in
-    let s = step_of a.n a.m a.i _ a.n _ e in
-    let L = places_are a.n a.m a.i s.whole.sizes c.place_parts-at.ensures in
-    let N = is_count (well_sized_lem _ _ _ s.whole.sizes).states c.size_of-sn.ensures in
-    let O = information-read a.n a.m a.i a.filter.now s.whole c.size_of-sn.ensures refl L c.vector_at-xi.ensures c.matrix_at-omega.ensures in
-    (λ t. (c.from.ensures t, a.out.now))
-    ∙ vector-refused c.size_of-sn.result N (state a.n (information_at a.n a.m a.i a.filter.now)) a.out.now (c.state.ensures ∙ λ j. as_vector (state (N j) (O j))) c.in-Err.is
-    ∙ ap (by a.n a.m a.i a.filter.now a.out.now) (sym e)
-
-pub returns-else-is_step : goal.returns-else-is_step
-returns-else-is_step c = let a = c.args in ap (by a.n a.m a.i a.filter.now a.out.now) (sym (sym c.is_step.ensures ∙ c.if-is_step.false))
+    let f = a.filter.now in
+    let s = step_given (λ m. m) a.n a.m a.i (length f) a.n (length a.out.now) c.in_ok-at.ensures in
+    let O = information-read f s.at c.vector_at-xi.ensures c.matrix_at-omega.ensures in
+    if_answered (written a.out.now) _ s.passed
+    (ap (written a.out.now) (vector-written _ s.at.states (state a.n (information_at a.n a.m a.i f)) a.out.now (c.in_ok-x.ensures ∙ λ t. as_vector (state (s.at.states t) (O t)))
+    (λ y q. length-state a.n (information_at a.n a.m a.i f) q) s.same c.put_vector.ensures))

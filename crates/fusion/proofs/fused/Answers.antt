@@ -2,7 +2,7 @@
 use Rattle.std.proofs.Common.{◌≡◌, ◌+◌, drop, ap, sym, ◌∙◌, arith}
 use Rattle.fusion.specs.Fusion.{Stepped, joined_all, kept_of}
 use Rattle.fusion.proofs.Joining.{done_with, begun_sized, begun-unsized, joined-done, joined_more, joined_end, joined-refused, kept-refused}
-use Rattle.small_inverse.proofs.Exits.{exit}
+use Rattle.answer.proofs.Exits.{exit}
 use Rattle.fusion.proofs.fused.Goals as goal
 
 pub loop-s-init : goal.loop-s-init

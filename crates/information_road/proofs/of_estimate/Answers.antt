@@ -1,6 +1,6 @@
 -- `of_estimate` meets its contract: by what the inversion answers.
 use Rattle.algebra.specs.Matrix.{sum_from, matvec}
-use Rattle.small_inverse.proofs.Exits.{exit}
+use Rattle.answer.proofs.Exits.{exit}
 use Rattle.information_road.proofs.Ways.{made, not_made}
 use Rattle.information_road.proofs.of_estimate.Goals as goal
 

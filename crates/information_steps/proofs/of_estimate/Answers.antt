@@ -1,5 +1,5 @@
 -- `of_estimate` meets its contract: by what the inversion answers.
-use Rattle.small_inverse.proofs.Exits.{exit}
+use Rattle.answer.proofs.Exits.{exit}
 use Rattle.information_steps.proofs.Ways.{made, not_made}
 use Rattle.information_steps.proofs.of_estimate.Goals as goal
 

@@ -1,5 +1,5 @@
 -- `predict` meets its contract: by what the inversion of omega answers, and then as of an estimate.
-use Rattle.small_inverse.proofs.Exits.{exit}
+use Rattle.answer.proofs.Exits.{exit}
 use Rattle.information_steps.proofs.Ways.{predicted, not_predicted}
 use Rattle.filtering.specs.Filter.{predicted_state}
 use Rattle.information_steps.proofs.predict.Goals as goal

@@ -1,5 +1,5 @@
 -- `state` meets its contract: by what the inversion answers.
-use Rattle.small_inverse.proofs.Exits.{exit}
+use Rattle.answer.proofs.Exits.{exit}
 use Rattle.information_steps.proofs.Ways.{state-found, no_state}
 use Rattle.information_steps.proofs.state.Goals as goal
 

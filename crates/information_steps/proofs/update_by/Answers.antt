@@ -1,5 +1,5 @@
 -- `update_by` meets its contract: by what the state after the addition is told as.
-use Rattle.small_inverse.proofs.Exits.{exit}
+use Rattle.answer.proofs.Exits.{exit}
 use Rattle.information_steps.proofs.Ways.{shape-informed, length-informed, told-after, refused-after}
 use Rattle.information_steps.proofs.update_by.Goals as goal
 

@@ -1,32 +1,20 @@
--- `fuse_in` meets its contract: the rows that it reads are those of the sensor and the record; by the test of the sizes.
-use mathlib.Core.Path.{◌∙◌}
-use Rattle.algebra.specs.Array.{flat_of_rows}
-use Rattle.sizes.specs.Size.{count, front}
-use Rattle.filtering.specs.Information.{informed}
-use Rattle.steps.proofs.Flats.{read}
-use Rattle.steps.proofs.Records.{around}
-use Rattle.information_steps.specs.Step.{arrays_of}
-use Rattle.information_filter.specs.Record.{flats_of, keeping, fusing}
-use Rattle.information_filter.proofs.Ways.{read-information, fused, unfused}
+-- `fuse_in` meets its contract: the rows that it reads are those of the sensor and the record.
+use mathlib.Core.Path.{◌≡◌, sym, ◌∙◌}
+use mathlib.Core.Bool.{true, ◌&&◌}
+use Rattle.std.specs.Prelude.{Ok}
+use Rattle.answer.proofs.Answers.{passed}
+use Rattle.steps.proofs.Sizes.{fitted_given}
+use Rattle.steps.proofs.Records.{by_sizes}
+use Rattle.information_filter.specs.Record.{information_flat, holding, fused_flat, fusible}
+use Rattle.information_filter.proofs.Ways.{read-addition}
 use Rattle.information_filter.proofs.InformationFilter.fuse_in.Goals as goal
 
-pub returns-then-both : goal.returns-then-both
-returns-then-both c =
+pub returns : goal.returns
+unfolding fusible
+returns c =
     let f = c.args.self.now in
-    let s = c.args.s.now in
-    let N = c.size_of-n.result in
-    let M = c.size_of-m.result in
-    let H = read M N s.h c.from_flat-h.ensures in
-    let W = read M M s.r_inv c.from_flat-w.ensures in
-    let O = read-information N f.omega f.xi c.from_flat-omega.ensures in
-    let g = c.inform.ensures ∙ λ k. arrays_of (informed (count N) (count M) (H k) (W k) (front M s.z) (O k)) in
-    around (λ t. t) flats_of (keeping f) (f.omega, f.xi) (fusing f s)
-    (fused s.h s.r_inv s.z f.omega f.xi _ _ _ _ _ c.is_fitting.ensures c.both.ensures c.if-both.true c.size_of-n.ensures c.size_of-m.ensures
-    (λ t. ((c.to_flat-self.ensures ∙ λ t. flat_of_rows (g t).0) t, (g t).1)))
-
-pub returns-else-both : goal.returns-else-both
-returns-else-both c =
-    let f = c.args.self.now in
-    let s = c.args.s.now in
-    around (λ t. t) flats_of (keeping f) (f.omega, f.xi) (fusing f s)
-    (unfused s.h s.r_inv s.z f.omega f.xi _ _ _ _ _ c.is_fitting.ensures c.both.ensures c.if-both.false)
+    let o = c.args.s.now in
+    let s = fitted_given _ _ _ _ _ c.fitted.ensures c.in_ok-n.was in
+    let both : fusible f.n f.m f.i o.n o.m ≡ true = λ k. s.passed k && passed _ _ (sym c.fits.ensures ∙ c.in_ok-fits.was) k in
+    by_sizes (λ t. t) (holding f) f (λ n m. fused_flat n m o.h o.r_inv o.z (information_flat n f.omega f.xi)) both s.states s.measurements
+    (λ k. (Ok tt, read-addition f _ c.from_flat-omega.ensures _ _ o.h o.r_inv o.z c.from_flat-h.ensures c.from_flat-w.ensures c.inform.ensures c.to_flat-self.ensures k))

@@ -1,39 +1,34 @@
--- `new` meets its contract: by what is told of the estimate.
-use mathlib.Core.Path.{refl, sym, ◌∙◌}
+-- `new` meets its contract: by what the estimate is told as.
+use mathlib.Core.Path.{ap, ◌∙◌}
 use mathlib.Core.List.{[]}
-use Rattle.answer.specs.Answer.{mapped}
+use mathlib.Core.Bool.{Bool}
+use Prim.Native.Nat.{ℕ}
+use Rattle.answer.specs.Answer.{where_sized}
 use Rattle.answer.specs.Outcome.{into, handed}
 use Rattle.algebra.specs.Array.{pad, pad_row}
-use Rattle.sizes.proofs.Sizes.{is_count}
-use Rattle.matrix.proofs.Results.{if_refused}
+use Rattle.matrix.proofs.Results.{if_answered}
 use Rattle.filtering.specs.Information.{of_estimate}
-use Rattle.small_inverse.proofs.Exits.{exit}
+use Rattle.answer.proofs.Exits.{exit}
 use Rattle.steps.specs.Flat.{motion_from, sensor_from, estimate_from}
-use Rattle.steps.proofs.Sizes.{well_sized_lem}
+use Rattle.steps.proofs.Sizes.{sized_given}
 use Rattle.information_steps.specs.Step.{arrays_of}
-use Rattle.information_filter.specs.Record.{record_of}
+use Rattle.information_filter.specs.Record.{record_of, information_from}
 use Rattle.information_filter.proofs.Ways.{new-made, new-refused}
 use Rattle.information_filter.proofs.InformationFilter.new.Goals as goal
-
-pub returns-in_ok-of_estimate : goal.returns-in_ok-of_estimate
-unfolding pad
-returns-in_ok-of_estimate c =
-    let a = c.args in
-    let e = sym c.is_well_sized.ensures ∙ c.if-is_well_sized.true in
-    let N = is_count (well_sized_lem _ _ _ e).states c.size_of.ensures in
-    let g = c.of_estimate.ensures ∙ λ k. handed (λ t. t) arrays_of (pad [], pad_row []) (into (of_estimate (N k) (estimate_from (N k) a.x0 a.p0))) in
-    new-made (motion_from a.n a.i a.a a.b a.q) (sensor_from a.n a.m a.h a.r) (estimate_from a.n a.x0 a.p0) c.is_well_sized.ensures c.if-is_well_sized.true (pad []) (pad_row []) g c.in_ok-of_estimate.was c.from_information.ensures
 
 pub returns-in_err-of_estimate : goal.returns-in_err-of_estimate
 unfolding pad
 returns-in_err-of_estimate c =
     let a = c.args in
-    let e = sym c.is_well_sized.ensures ∙ c.if-is_well_sized.true in
-    let N = is_count (well_sized_lem _ _ _ e).states c.size_of.ensures in
-    let g = c.of_estimate.ensures ∙ λ k. handed (λ t. t) arrays_of (pad [], pad_row []) (into (of_estimate (N k) (estimate_from (N k) a.x0 a.p0))) in
-    new-refused (motion_from a.n a.i a.a a.b a.q) (sensor_from a.n a.m a.h a.r) (estimate_from a.n a.x0 a.p0) c.is_well_sized.ensures c.if-is_well_sized.true (pad []) (pad_row []) g c.in_err-of_estimate.was (exit c.from_residual.ensures.1)
+    let s = sized_given _ _ _ c.sized.ensures c.in_ok-sn.was in
+    let g = c.in_err-of_estimate.ensures ∙ ap (λ (n : ℕ). handed (λ t. t) arrays_of (pad [], pad_row []) (into (of_estimate n (estimate_from n a.x0 a.p0)))) s.states in
+    if_answered (λ t. t) _ s.passed (new-refused (motion_from a.n a.i a.a a.b a.q) (sensor_from a.n a.m a.h a.r) (estimate_from a.n a.x0 a.p0) (pad []) (pad_row []) g (exit c.from_residual-in_err-of_estimate.ensures.1))
 
-pub returns-else-is_well_sized : goal.returns-else-is_well_sized
-returns-else-is_well_sized c =
+pub returns : goal.returns
+unfolding pad
+returns c =
     let a = c.args in
-    if_refused (λ t. t) (mapped (record_of (motion_from a.n a.i a.a a.b a.q) (sensor_from a.n a.m a.h a.r)) (of_estimate a.n (estimate_from a.n a.x0 a.p0))) (sym c.is_well_sized.ensures ∙ c.if-is_well_sized.false) refl
+    let s = sized_given _ _ _ c.sized.ensures c.in_ok-sn.was in
+    let g = c.in_ok-of_estimate.ensures ∙ ap (λ (n : ℕ). handed (λ t. t) arrays_of (pad [], pad_row []) (into (of_estimate n (estimate_from n a.x0 a.p0)))) s.states in
+    let made = c.from_information.ensures ∙ ap (λ (t : Bool). where_sized t (record_of (motion_from a.n a.i a.a a.b a.q) (sensor_from a.n a.m a.h a.r) (information_from a.n c.of_estimate.new.omega c.of_estimate.new.xi))) s.passed in
+    if_answered (λ t. t) _ s.passed (new-made (motion_from a.n a.i a.a a.b a.q) (sensor_from a.n a.m a.h a.r) (estimate_from a.n a.x0 a.p0) (pad []) (pad_row []) g made)

@@ -1,11 +1,14 @@
 -- `update_one` meets its contract: what `update` tells, read as a number.
-use Rattle.information_filter.proofs.One.{one-answered, one-refused}
+use mathlib.Core.Path.{◌≡◌, ◌∙◌}
+use Rattle.std.proofs.Common.{arith}
+use Rattle.std.proofs.lemmas.Grind.{common_steps}
+use Rattle.answer.specs.Answer.{mapped}
+use Rattle.algebra.specs.Matrix.{at}
+use Rattle.information_filter.proofs.One.{one_step}
 use Rattle.information_filter.proofs.InformationFilter.update_one.Goals as goal
 
-pub returns-in-Ok : goal.returns-in-Ok
-returns-in-Ok c =
-    one-answered c.args.self c.args.z c.update-u.ensures c.in-Ok.is
-
-pub returns-in-Err : goal.returns-in-Err
-returns-in-Err c =
-    one-refused c.args.self c.args.z c.update-u.ensures c.in-Err.is
+pub returns : goal.returns
+returns c =
+    let u = c.update-answer.result in
+    let e : c.map.result ≡ mapped (λ y. at y 0) u.answer = grind (arith, common_steps) in
+    (λ k. record { answer = e k; left = u.left }) ∙ one_step c.args.self c.args.z c.update-answer.ensures

@@ -1,13 +1,13 @@
--- `predicted` meets its contract: one road by its numbers, a plane with its sizes at hand, and else rows.
+-- `information_predict` meets its contract: one road by its numbers, a plane with its sizes at hand, and else rows.
 use native.Mathlib.Omega.{arith}
-use mathlib.Core.Path.{sym, ◌∙◌}
-use Rattle.answer.specs.Told.{number_of}
-use Rattle.small_inverse.proofs.Exits.{exit}
+use mathlib.Core.Path.{◌≡◌, sym, ◌∙◌}
+use Rattle.std.proofs.Common.{rules}
+use Rattle.std.specs.Prelude.{Err}
 use Rattle.c_roads.proofs.Roads.{road_of, road_read, pair_put}
 use Rattle.c_roads.proofs.Planes.{plane_of}
 use Rattle.c_information_steps.specs.Steps.{predict_in}
 use Rattle.c_information_steps.proofs.Roads.{predicts, stops}
-use Rattle.c_information_steps.proofs.predicted.Goals as goal
+use Rattle.c_information_steps.proofs.information_predict.Goals as goal
 
 pub returns-then-is_road : goal.returns-then-is_road
 returns-then-is_road c =
@@ -21,8 +21,8 @@ returns-in_err-o c =
     let a = c.args in
     let f = a.filter.now in
     let R = road_of a.n a.m a.i _ _ (sym c.is_road.ensures ∙ c.if-is_road.true) in
-    (λ t. (number_of (exit c.from_residual.ensures.1 t), f))
-    ∙ stops f a.u.now R c.road_at-f.result (road_read f R.long c.road_at-f.ensures) c.predict.ensures c.in_err-o.was
+    let e : c.from_residual.result ≡ Err c.in_err-o.field-0.0 = search rules in
+    stops f a.u.now R c.road_at-f.result (road_read f R.long c.road_at-f.ensures) c.predict.ensures c.in_err-o.was e
 
 pub returns-then-is_plane : goal.returns-then-is_plane
 returns-then-is_plane c =
