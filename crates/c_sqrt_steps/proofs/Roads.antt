@@ -1,8 +1,8 @@
 -- One road in a slice of 19 numbers: a step by its numbers is the step on the slice. Assumes nothing.
-use mathlib.Core.Path.{◌≡◌, sym, ap, ap₂, ◌∙◌}
+use mathlib.Core.Path.{◌≡◌, refl, sym, ap, ap₂, ◌∙◌}
 use mathlib.Core.List.{List, [], ◌∷◌, ◌++◌}
 use mathlib.Core.Bool.{Bool, true, ◌&&◌}
-use Prim.Native.Nat.{ℕ, ◌+◌, ◌*◌}
+use Prim.Native.Nat.{ℕ}
 use native.Mathlib.Omega.{arith}
 use lib.ListN.{length, set, take, drop}
 use lib.Seq.{take-add, drop-drop}
@@ -10,12 +10,10 @@ use lib.Ieee.{Float}
 use borrow.Author.Tests.{eq-eqb}
 use Rattle.std.specs.Prelude.{Ok, Err}
 use Rattle.answer.specs.declared.Refusal.{Refusal}
-use Rattle.answer.specs.Answer.{Answer}
+use Rattle.answer.specs.Answer.{Answer, mapped}
 use Rattle.answer.specs.Outcome.{Outcome, Left, unchanged, this, if_fitting, standing}
-use Rattle.answer.specs.Told.{number, number_of}
 use Rattle.answer.proofs.Answers.{differ, same_answer, same-refusal}
 use Rattle.algebra.specs.Matrix.{Vector, at, row}
-use Rattle.algebra.proofs.Matrices.{shape-mat}
 use Rattle.sizes.specs.Size.{sized}
 use Rattle.matrix.specs.Result.{as_one}
 use Rattle.filtering.specs.Filter.{Sensor}
@@ -26,13 +24,13 @@ use Rattle.steps.specs.Step.{well_sized}
 use Rattle.road.specs.declared.Pair.{Pair}
 use Rattle.road.specs.declared.Road.{Road}
 use Rattle.road.specs.Road.{Filter, estimate_of, road_of}
+use Rattle.sqrt_steps.proofs.Updates.{told-length}
 use Rattle.sqrt_road.specs.Road.{factored_of, channel_of, stepped_of, updated_of}
-use Rattle.c_copies.specs.Filter.{road_in, with_estimate, told_in}
+use Rattle.c_copies.specs.Filter.{is_filter_by, is_step_by, is_step_with_by, road_in, with_estimate, told_in}
 use Rattle.c_roads.proofs.Roads.{one_place}
 use Rattle.c_roads.proofs.Roads as Linear
-use Rattle.c_sqrt_kalman.specs.Root.{is_filter, is_step, is_step_with, factored_at, with_factored, stepped_in}
+use Rattle.c_sqrt_kalman.specs.Root.{is_step, is_step_with, factored_at, with_factored, stepped_in}
 use Rattle.c_sqrt_steps.specs.Step.{motion_at, channel_at, predict_in, outcome_in, update_in}
-use Rattle.c_sqrt_steps.proofs.Outcomes.{Tells, told-length, update-tells}
 use Rattle.c_sqrt_steps.proofs.Steps.{placed-again}
 
 -- ---- what the filter of one road holds where a linear one has its estimate and its noise
@@ -44,11 +42,11 @@ channel F = record { n = F.sensor.n; m = F.sensor.m; h = F.sensor.h; r = row F.s
 
 -- the tests of the sizes are passed
 step-passed : {k j : ℕ} → k ≡ 19 → j ≡ 1 → is_step 2 1 1 k 1 j ≡ true
-unfolding is_step is_filter well_sized sized
+unfolding is_step_by is_filter_by well_sized sized
 step-passed d e = ap₂ (λ (k j : ℕ). is_step 2 1 1 k 1 j) d e
 
 with-passed : {k j l : ℕ} → k ≡ 19 → j ≡ 1 → l ≡ 1 → is_step_with 2 1 1 k 1 j 1 l ≡ true
-unfolding is_step_with
+unfolding is_step_with_by
 with-passed {k} {j} {l} d e g = λ t. step-passed d e t && eq-eqb l 1 g t
 
 -- what stands in a slice, put there again
@@ -64,15 +62,15 @@ put : (f : List Float) → length f ≡ 19 → (a : Left Factored) {v : Pair} {g
 put f l unchanged e p = p ∙ (λ t. with_factored 2 1 1 f (e t)) ∙ again f l
 put f l (this h) e p = p ∙ λ t. with_factored 2 1 1 f (e t)
 
--- ---- a prediction: r is the road as the code has it, and v what is told to be left
-pub predicts : {n m i : ℕ} (f u : List Float) (R : Linear.Road n m i (length f) (length u)) (r : Road) → road_of r ≡ road_in f → {s : Answer (Unit {0})} {v : Pair} {g : List Float} {k : ℕ}
+-- ---- a prediction: r is the road as the code has it, and v the pair that is left
+pub predicts : {n m i : ℕ} (f u : List Float) (R : Linear.Road n m i (length f) (length u)) (r : Road) → road_of r ≡ road_in f → {s : Answer (Unit {0})} {v : Pair} {g : List Float}
     → (s, factored_of v) ≡ stepped_of (factored_of r.pair) (predict (road_of r).motion (at u 0 ∷ []) (factored_of r.pair))
-    → g ≡ with_estimate 2 1 1 f (estimate_of v) → k ≡ number_of s → (k, g) ≡ predict_in n m i f u
-predicts f u R r read {s} {v} {g} e p ek =
+    → g ≡ with_estimate 2 1 1 f (estimate_of v) → (s, g) ≡ predict_in n m i f u
+predicts f u R r read {s} {v} {g} e p =
     let o = predict (motion_at 2 1 1 f) u (factored_at 2 1 1 f) in
     let same : (s, factored_of v) ≡ stepped_of (factored_at 2 1 1 f) o =
     e ∙ ap₂ (λ (G : Filter) (w : Vector). stepped_of (kept G) (predict G.motion w (kept G))) read (whole-vector 1 u R.one) in
-    (λ t. ((ek ∙ λ t. number_of (same t).0) t, put f R.long o.left (λ t. (same t).1) p t))
+    (λ t. ((same t).0, put f R.long o.left (λ t. (same t).1) p t))
     ∙ ap (λ (b : Bool). stepped_in 2 1 1 f (if_fitting b o)) (sym (step-passed R.long R.one))
     ∙ (λ t. predict_in (sym R.states t) (sym R.measurements t) (sym R.inputs t) f u)
 
@@ -88,28 +86,29 @@ module _ {n m i : ℕ} (f z y : List Float) (R : Linear.Road n m i (length f) (l
   slice_is : g ≡ standing (with_factored 2 1 1 f) f outcome.left
   slice_is = put f R.long outcome.left (λ t. (same t).1) p
 
-  by_sizes : {x : ℕ × (List Float × List Float)} → x ≡ outcome_in 2 1 1 f y outcome → x ≡ update_in n m i f z y
+  by_sizes : {x : Answer (Unit {0}) × (List Float × List Float)} → x ≡ outcome_in 2 1 1 f y outcome → x ≡ update_in n m i f z y
   by_sizes q =
       q
       ∙ ap (λ (b : Bool). outcome_in 2 1 1 f y (if_fitting b outcome)) (sym (with-passed R.long R.one ly))
       ∙ (λ t. update_in (sym R.states t) (sym R.measurements t) (sym R.inputs t) f z y)
 
-  tells : Tells 1 outcome.told
-  tells = update-tells (channel_at 2 1 1 f) z (factored_at 2 1 1 f) (shape-mat 2 2 (λ i j. at f (15 + i * 2 + j)))
+  -- what is told and left, where b is told
+  abbrev of : Answer Vector → Answer (Unit {0}) × (List Float × List Float)
+  of b = (mapped (λ _. tt) b, (standing (with_factored 2 1 1 f) f outcome.left, told_in y b))
 
-  pub updates : {x : Float} → a ≡ Ok x → (0, (g, set y 0 x)) ≡ update_in n m i f z y
-  updates {x} d = by_sizes (go outcome.told tells (sym d ∙ λ t. (same t).0))
+  pub updates : {x : Float} → a ≡ Ok x → (Ok tt, (g, set y 0 x)) ≡ update_in n m i f z y
+  updates {x} d = by_sizes (go outcome.told (λ c. told-length (channel_at 2 1 1 f) z (factored_at 2 1 1 f) c) (sym d ∙ λ t. (same t).0))
     where
-      go : (b : Answer Vector) → Tells 1 b → Ok x ≡ as_one b → ◌≡◌ {A = ℕ × (List Float × List Float)} (0, (g, set y 0 x)) (number_of b, (standing (with_factored 2 1 1 f) f outcome.left, told_in y b))
+      go : (b : Answer Vector) → ((c : Vector) → b ≡ Ok c → length c ≡ 1) → Ok x ≡ as_one b → (Ok tt, (g, set y 0 x)) ≡ of b
       go (Err j) w q = absurd (differ (sym q))
       go (Ok c) w q =
           let number : x ≡ at c 0 = same_answer q in
-          let there : set y 0 x ≡ c = one_place y x ly ∙ ap (λ (k : Float). k ∷ []) number ∙ whole-vector 1 c (told-length w) in
-          λ t. (0, (slice_is t, there t))
+          let there : set y 0 x ≡ c = one_place y x ly ∙ ap (λ (k : Float). k ∷ []) number ∙ whole-vector 1 c (w c refl) in
+          λ t. (Ok tt, (slice_is t, there t))
 
-  pub refuses : {k : Refusal} → a ≡ Err k → (number k, (g, y)) ≡ update_in n m i f z y
+  pub refuses : {k : Refusal} → a ≡ Err k → (Err k, (g, y)) ≡ update_in n m i f z y
   refuses {k} d = by_sizes (go outcome.told (sym d ∙ λ t. (same t).0))
     where
-      go : (b : Answer Vector) → Err k ≡ as_one b → ◌≡◌ {A = ℕ × (List Float × List Float)} (number k, (g, y)) (number_of b, (standing (with_factored 2 1 1 f) f outcome.left, told_in y b))
-      go (Err j) q = let same : k ≡ j = same-refusal q in λ t. (number (same t), (slice_is t, y))
+      go : (b : Answer Vector) → Err k ≡ as_one b → (Err k, (g, y)) ≡ of b
+      go (Err j) q = let same : k ≡ j = same-refusal q in λ t. (Err (same t), (slice_is t, y))
       go (Ok c) q = absurd (differ q)

@@ -1,12 +1,11 @@
 -- What the rows read from a record's numbers x and s hold, and an outcome in rows and in such numbers. Assumes nothing.
 use mathlib.Core.Path.{◌≡◌, refl, sym, ap, ◌∙◌}
 use mathlib.Core.List.{List}
-use mathlib.Core.Bool.{Bool, true}
 use Prim.Native.Nat.{ℕ}
 use lib.ListN.{length}
 use lib.Ieee.{Float, nan}
 use Rattle.answer.specs.Answer.{Answer}
-use Rattle.answer.specs.Outcome.{Outcome, Left, unchanged, this, standing, handed, if_fitting}
+use Rattle.answer.specs.Outcome.{Outcome, Left, unchanged, this, standing, handed}
 use Rattle.answer.specs.Table.{table}
 use Rattle.answer.proofs.Tables.{table-get_or}
 use Rattle.algebra.specs.Matrix.{Vector, at}
@@ -21,9 +20,9 @@ use Rattle.sqrt_steps.specs.Step.{channel_rows, factored_rows, arrays_of}
 use Rattle.sqrt_kalman.specs.Record.{channel_flat, factored_flat, flats_of}
 
 -- sixteen numbers, row by row and laid flat again
-pub flat-again : (f : List Float) → length f ≡ 16 → flat_of_rows (rows_of_flat f) ≡ f
+pub flat_again : (f : List Float) → length f ≡ 16 → flat_of_rows (rows_of_flat f) ≡ f
 unfolding flat_of_rows rows_of_flat used_flat
-flat-again f l = ap (λ (k : ℕ). table k (λ n. at f n)) (sym l) ∙ table-get_or f nan
+flat_again f l = ap (λ (k : ℕ). table k (λ n. at f n)) (sym l) ∙ table-get_or f nan
 
 -- ---- what is read from a record's numbers
 pub read-channel : (n m : Size) (h r : List Float) {H : Rows} → H ≡ rows_of_flat h → channel_rows n m H r ≡ channel_flat (count n) (count m) h r
@@ -48,8 +47,3 @@ module _ {R T : Type 0} (tell : Answer R → T) where
       go : (l : Left Factored) → ◌≡◌ {A = T × (List Float × List Float)} (tell o.told, ((standing arrays_of (x, a) l).0, flat_of_rows (standing arrays_of (x, a) l).1)) (tell o.told, standing flats_of (x, s) l)
       go unchanged = λ k. (tell o.told, (x, e k))
       go (this g) = refl
-
--- ---- the ways through a step f of the n states and the asked numbers: b is the test of the sizes, which the call o gave
-module _ {W R T : Type 0} (tell : Answer R → T) (put : Factored → W) (w : W) {b : Bool} where
-  pub by_sizes : (f : ℕ → ℕ → Outcome Factored R) {n asked j l : ℕ} {y : T × W} → b ≡ true → j ≡ n → l ≡ asked → y ≡ handed tell put w (f j l) → y ≡ handed tell put w (if_fitting b (f n asked))
-  by_sizes f h d e q = q ∙ λ k. handed tell put w (if_fitting (sym h k) (f (d k) (e k)))

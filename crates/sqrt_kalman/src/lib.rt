@@ -3,6 +3,7 @@
 #![tactic(auto)]
 
 ghost use Rattle.std.specs.Prelude.{◌≡◌};
+ghost use Rattle.algebra.specs.Matrix.{at};
 ghost use Rattle.algebra.specs.Array.{cut, rows_of_flat, flat_of_rows};
 ghost use Rattle.answer.specs.Outcome.{handed};
 ghost use Rattle.matrix.specs.Result.{as_vector};
@@ -30,6 +31,7 @@ pub struct SqrtKalman {
 }
 
 // The rows of a factor; laid flat again they are the factor.
+#[tactic(auto, using(crate::proofs::Records::flat_again))]
 fn factor_rows(s: [f64; 16]) -> [[f64; 4]; 4]
     ensures { (result ≡ rows_of_flat s) × (flat_of_rows result ≡ s) }
 {
@@ -80,8 +82,8 @@ impl SqrtKalman {
 // ---- the methods by value
 
 impl SqrtKalman {
-    // The filter of a model and an estimate, given by the used parts of arrays of rows; the factor is that of p0. Refused with
-    // 1: a size; with 4: p0 has no factor.
+    // The filter of a model and an estimate, given by the used parts of arrays of rows; the factor is that of p0. Refused as a
+    // wrong size: a size; as not positive definite: p0 has no factor.
     pub fn new(
         n: usize,
         m: usize,
@@ -101,7 +103,7 @@ impl SqrtKalman {
         Self::from_cholesky(n, m, i, a, b, h, q, r_diag, x0, s0)
     }
 
-    // The same, with the factor s0 itself. Refused with 1: a size.
+    // The same, with the factor s0 itself. Refused as a wrong size: a size.
     pub fn from_cholesky(
         n: usize,
         m: usize,
@@ -131,8 +133,8 @@ impl SqrtKalman {
         })
     }
 
-    // The state and the factor one step on, with the input u of k numbers. Refused with 1: a size of the record, or k is not i;
-    // with 4: the new covariance has no factor; the state is then the new one, and the factor the old.
+    // The state and the factor one step on, with the input u of k numbers. Refused as a wrong size: a size of the record, or k is
+    // not i; as not positive definite: the new covariance has no factor; the state is then the new one, and the factor the old.
     pub fn predict(self, u: [f64; 4], k: usize) -> Step<(), SqrtKalman>
         ensures { result ≡ predict_of self u k }
     {
@@ -142,8 +144,8 @@ impl SqrtKalman {
     }
 
     // The state and the factor corrected by the measurement z of k numbers, one component after another; the innovations in
-    // order. Refused with 1: a size, or k is not m; with 3: a component's variance; the components before it are taken in; with
-    // 4: its downdate; the state is then updated by it, and the columns before the failing one are turned.
+    // order. Refused as a wrong size: a size, or k is not m; as singular: a component's variance; the components before it are taken
+    // in; as not positive definite: its downdate; the state is then updated by it, and the columns before the failing one are turned.
     pub fn update(self, z: [f64; 4], k: usize) -> Step<[f64; 4], SqrtKalman>
         ensures { result ≡ update_of self z k }
     {
@@ -156,21 +158,17 @@ impl SqrtKalman {
     pub fn update_one(self, z: f64) -> Step<f64, SqrtKalman>
         ensures { result ≡ update_one_of self z }
     {
-        let u = self.update([z, 0.0, 0.0, 0.0], 1);
-        let left = u.left;
-        match u.answer {
-            Ok(y) => Step {
-                answer: Ok(y[0]),
-                left,
-            },
-            Err(refusal) => Step {
-                answer: Err(refusal),
-                left,
-            },
+        let Step { answer, left } = self.update([z, 0.0, 0.0, 0.0], 1);
+        let first = |y: [f64; 4]| -> f64
+            ensures { result ≡ at y 0 }
+        { y[0] };
+        Step {
+            answer: answer.map(first),
+            left,
         }
     }
 
-    // The state, of n numbers. Refused with 1: a size of the record.
+    // The state, of n numbers. Refused as a wrong size: a size of the record.
     pub fn state(self) -> Result<[f64; 4], Refusal>
         ensures { result ≡ state_of self }
     {
@@ -178,7 +176,7 @@ impl SqrtKalman {
         Ok(rows::leading(self.x, n))
     }
 
-    // The covariance, n by n. Refused with 1: a size of the record.
+    // The covariance, n by n. Refused as a wrong size: a size of the record.
     pub fn covariance(self) -> Result<[[f64; 4]; 4], Refusal>
         ensures { result ≡ covariance_of self }
     {
@@ -187,7 +185,7 @@ impl SqrtKalman {
         Ok(sqrt_steps::covariance(&s, n))
     }
 
-    // The factor, n by n. Refused with 1: a size of the record.
+    // The factor, n by n. Refused as a wrong size: a size of the record.
     pub fn cholesky_factor(self) -> Result<[[f64; 4]; 4], Refusal>
         ensures { result ≡ cholesky_factor_of self }
     {
@@ -196,8 +194,8 @@ impl SqrtKalman {
         Ok(rows::used_part(&s, n, n))
     }
 
-    // The state x0, and the factor of the covariance p0 of k states. Refused with 1: a size of the record, or k is not n; with 4:
-    // p0 has no factor. Either leaves state and factor as they are.
+    // The state x0, and the factor of the covariance p0 of k states. Refused as a wrong size: a size of the record, or k is not n;
+    // as not positive definite: p0 has no factor. Either leaves state and factor as they are.
     pub fn reset(self, x0: [f64; 4], p0: [[f64; 4]; 4], k: usize) -> Step<(), SqrtKalman>
         ensures { result ≡ reset_of self x0 p0 k }
     {

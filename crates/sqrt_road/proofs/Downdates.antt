@@ -21,7 +21,7 @@ module _ (l : Two) (v w : Float) where
   vw = v ∷ w ∷ []
 
   -- d is the first column's diagonal: the cell below it, and what is left of w
-  abbrev below : Float → Float
+  abbrev pub below : Float → Float
   below d = (l.c ⊖ v ⊘ l.a ⊗ w) ⊘ (d ⊘ l.a)
 
   abbrev pub turned : Float → Float

@@ -9,13 +9,14 @@ ghost use Rattle.filtering.specs.SquareRoot.{factored, covariance as covariance_
 ghost use Rattle.road.specs.Road.{matrix_of, motion_of};
 ghost use Rattle.sqrt_road.specs.Road.{factored_of, channel_of, turned_of, stepped_of, updated_of};
 
-use answer::{Refusal, Step};
+use answer::Refusal;
 use road::{Motion, Pair, Sensor, Two};
 use scalar::ControlScalar;
 
 // ---- a prediction
 
-// The factor of p, of which only the lower triangle is read. Refused with 4: a diagonal.
+// The factor of p, of which only the lower triangle is read. Refused as not positive definite: a diagonal.
+#[tactic(auto, using(crate::proofs::Factor::at_first, crate::proofs::Factor::at_second))]
 fn factor_of(p: Two) -> Result<Two, Refusal>
     ensures { mapped matrix_of result ≡ cholesky_of 2 (matrix_of p) }
 {
@@ -37,101 +38,62 @@ fn covariance(l: Two) -> Two
     }
 }
 
-// One step on, with the input u. Refused with 4: the new covariance has no factor; the state is then the new one, and the
-// factor the old.
-pub fn predict(motion: Motion, u: f64, g: Pair) -> Step<(), Pair>
-    ensures { (result.answer, factored_of result.left) ≡ stepped_of (factored_of g) (predict_of (motion_of motion) (u ∷ []) (factored_of g)) }
+// One step on, with the input u. Refused as not positive definite: the new covariance has no factor; the state is then the new
+// one, and the factor the old.
+pub fn predict(motion: Motion, u: f64, g: &mut Pair) -> Result<(), Refusal>
+    ensures { (result, factored_of g.new) ≡ stepped_of (factored_of g.old) (predict_of (motion_of motion) (u ∷ []) (factored_of g.old)) }
 {
-    let x0 = g.x0;
-    let x1 = g.x1;
-    let l = g.p;
-    let p = covariance(l);
-    let e = motion.predict(u, Pair { x0, x1, p });
-    let x0 = e.x0;
-    let x1 = e.x1;
-    match factor_of(e.p) {
-        Ok(p) => Step {
-            answer: Ok(()),
-            left: Pair { x0, x1, p },
+    let p = covariance(g.p);
+    let e = motion.predict(
+        u,
+        Pair {
+            x0: g.x0,
+            x1: g.x1,
+            p,
         },
-        Err(refusal) => Step {
-            answer: Err(refusal),
-            left: Pair { x0, x1, p: l },
-        },
-    }
+    );
+    g.x0 = e.x0;
+    g.x1 = e.x1;
+    g.p = factor_of(e.p)?;
+    Ok(())
 }
 
 // ---- an update
 
-// The downdate of l by (v, w), column by column. Refused with 4: a column's diagonal; the columns before it are turned, so the factor
-// that is left stands beside the answer.
-fn downdate(l: Two, v: f64, w: f64) -> Step<(), Two>
-    ensures { (result.answer, matrix_of result.left) ≡ turned_of (matrix_of l) (rotated 2 2 (matrix_of l) (v ∷ w ∷ [])) }
+// The downdate of l by (v, w), column by column. Refused as not positive definite: a column's diagonal; the columns before it are
+// turned.
+fn downdate(l: &mut Two, v: f64, w: f64) -> Result<(), Refusal>
+    ensures { (result, matrix_of l.new) ≡ turned_of (matrix_of l.old) (rotated 2 2 (matrix_of l.old) (v ∷ w ∷ [])) }
 {
-    match sqrt_steps::turned_diagonal(l.a * l.a - v * v) {
-        Ok(a) => {
-            let c = a / l.a;
-            let s = v / l.a;
-            let cell = l.c;
-            let below = (cell - s * w) / c;
-            let turned = c * w - s * cell;
-            match sqrt_steps::turned_diagonal(l.d * l.d - turned * turned) {
-                Ok(d) => Step {
-                    answer: Ok(()),
-                    left: Two {
-                        a,
-                        b: l.b,
-                        c: below,
-                        d,
-                    },
-                },
-                Err(refusal) => Step {
-                    answer: Err(refusal),
-                    left: Two {
-                        a,
-                        b: l.b,
-                        c: below,
-                        d: l.d,
-                    },
-                },
-            }
-        }
-        Err(refusal) => Step {
-            answer: Err(refusal),
-            left: l,
-        },
-    }
+    let a = sqrt_steps::turned_diagonal(l.a * l.a - v * v)?;
+    let c = a / l.a;
+    let s = v / l.a;
+    let cell = l.c;
+    let below = (cell - s * w) / c;
+    let turned = c * w - s * cell;
+    l.a = a;
+    l.c = below;
+    l.d = sqrt_steps::turned_diagonal(l.d * l.d - turned * turned)?;
+    Ok(())
 }
 
-// Corrected by the measurement z, where the sensor's r is its deviation; the innovation is z less h times the state before. Refused with 3: the
-// variance, and nothing changes; with 4: a column of the downdate. The state is then the new one, and the columns before it are
-// turned.
-pub fn update(sensor: Sensor, z: f64, g: Pair) -> Step<f64, Pair>
-    ensures { (result.answer, factored_of result.left) ≡ updated_of (factored_of g) (update_of (channel_of sensor) (z ∷ []) (factored_of g)) }
+// Corrected by the measurement z, where the sensor's r is its deviation; the innovation is z less h times the state before. Refused
+// as singular: the variance, and nothing changes; as not positive definite: a column of the downdate. The state is then the new one,
+// and the columns before it are turned.
+pub fn update(sensor: Sensor, z: f64, g: &mut Pair) -> Result<f64, Refusal>
+    ensures { (result, factored_of g.new) ≡ updated_of (factored_of g.old) (update_of (channel_of sensor) (z ∷ []) (factored_of g.old)) }
 {
     let Sensor { h0, h1, r } = sensor;
     let l = g.p;
     let y = z - (0.0 + h0 * g.x0 + h1 * g.x1);
     let t0 = 0.0 + l.a * h0 + l.c * h1;
     let t1 = 0.0 + l.b * h0 + l.d * h1;
-    match sqrt_steps::variance((0.0 + t0 * t0 + t1 * t1) + r * r) {
-        Ok(s) => {
-            let g0 = 0.0 + l.a * t0 + l.b * t1;
-            let g1 = 0.0 + l.c * t0 + l.d * t1;
-            let root = ControlScalar::sqrt(s);
-            let f = downdate(l, g0 / root, g1 / root);
-            Step {
-                answer: f.answer.map(|()| y),
-                left: Pair {
-                    x0: g.x0 + g0 / s * y,
-                    x1: g.x1 + g1 / s * y,
-                    p: f.left,
-                },
-            }
-        }
-        Err(refusal) => Step {
-            answer: Err(refusal),
-            left: g,
-        },
-    }
+    let s = sqrt_steps::variance((0.0 + t0 * t0 + t1 * t1) + r * r)?;
+    let g0 = 0.0 + l.a * t0 + l.b * t1;
+    let g1 = 0.0 + l.c * t0 + l.d * t1;
+    let root = ControlScalar::sqrt(s);
+    g.x0 = g.x0 + g0 / s * y;
+    g.x1 = g.x1 + g1 / s * y;
+    let turned = downdate(&mut g.p, g0 / root, g1 / root);
+    turned.map(|()| y)
 }

@@ -4,8 +4,6 @@ use mathlib.Core.Bool.{Bool, cond}
 use mathlib.Core.List.{List}
 use Prim.Native.Nat.{ℕ, zero, suc, ◌<◌, ◌≤◌}
 use native.Mathlib.Nat.{le_trans}
-use native.Mathlib.Omega.{arith}
-use borrow.Author.Tests.{le-ltb}
 use lib.Dec.{eqb, ltb, eqb-zero-suc, eqb-suc-zero, eqb-suc-suc}
 use lib.Ieee.{Float, nan}
 use Rattle.scalar.specs.Number.{◌⊖◌, ◌⊗◌, ◌⊘◌}
@@ -14,7 +12,6 @@ use Rattle.answer.specs.declared.Refusal.{Refusal}
 use Rattle.answer.specs.Answer.{Answer}
 use Rattle.answer.specs.Outcome.{Outcome, unchanged, done, ◌else_leave◌then◌}
 use Rattle.answer.specs.Table.{table}
-use Rattle.answer.proofs.Choice.{cond-false}
 use Rattle.answer.proofs.Tables.{get_or-table, table_ext}
 use Rattle.algebra.specs.Matrix.{Vector, Matrix, at, cell, mat}
 use Rattle.algebra.specs.Array.{pad_row, pad}
@@ -30,14 +27,6 @@ use Rattle.sqrt_steps.specs.Step.{turned_column, turned_vector, with_column, rot
 
 pub at_most_four : (n : Size) → count n ≤ 4
 at_most_four n = (bounds n).most
-
--- cell i below the diagonal turned, and y elsewhere
-abbrev pub turned_or : ℕ → Float → Float → List Float → List Float → ℕ → Float → Float
-turned_or k c s column v i y = cond (ltb k i) ((at column i ⊖ s ⊗ at v i) ⊘ c) y
-
--- nothing is above the first
-pub first : (k : ℕ) (x y : Float) → y ≡ cond (ltb k 0) x y
-first k x y = sym (cond-false x y (le-ltb k 0 (omega arith)))
 
 eqb_sym : (i j : ℕ) → eqb i j ≡ eqb j i
 eqb_sym zero zero = refl

@@ -146,3 +146,6 @@ pub turning_all : {n : Size} {l : Rows} {v : List Float} {k : ℕ} {l' : Rows} {
 turning_all {n} {l} {v} {k} t h =
     let same : count n ≡ k = omega arith in
     (λ i. (Ok tt, t.factor i)) ∙ sym (ap (handed ended pad l) (ap (λ (j : ℕ). rotated (count n) j (part n n l) (front n v)) same ∙ t.so_far))
+
+-- the loop's turns, but for a refusal
+pub ruleset turns = (turning_none, turning_more, turning_all)

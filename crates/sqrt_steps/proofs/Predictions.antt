@@ -65,3 +65,6 @@ module _ (n i : Size) (a b q : Rows) (u x : List Float) (l : Rows) where
         go : (o : Answer Matrix) → as_matrix o ≡ Err j → (Err j, (x', l')) ≡ of o
         go (Err i) e = let d : i ≡ j = same-refusal e in λ k. (Err (sym d k), (ex k, el k))
         go (Ok L) e = cc
+
+-- the way out without a factor
+pub ruleset unfactored = (factorization, when_unfactored)

@@ -19,6 +19,7 @@ use Rattle.algebra.specs.Array.{cut, used, pad_row}
 use Rattle.algebra.proofs.Arrays.{at_cut, row-used, cut-pad_row, used-pad, shape-used}
 use Rattle.sizes.specs.declared.Size.{Size}
 use Rattle.sizes.specs.Size.{count, front, part}
+use Rattle.sizes.proofs.Sizes.{bounds}
 use Rattle.matrix.specs.Result.{as_vector}
 use Rattle.filtering.specs.Filter.{Sensor}
 use Rattle.filtering.specs.SquareRoot.{Factored, factored, component, components, update}
@@ -86,34 +87,33 @@ standing-later : (a : List Float × Rows) (l m : Left Factored) → standing arr
 standing-later a l unchanged = refl
 standing-later a l (this f) = refl
 
--- m components in arrays
-abbrev channel : Size → ℕ → Rows → List Float → Sensor Vector
-channel n m h r = record { n = count n; m = m; h = used m (count n) h; r = cut m r }
-
 -- ---- the loop has taken in the first i components: its invariant. h, r, z, x and l are the arrays to begin with
-pub record Taking (n : Size) (m : ℕ) (h : Rows) (r z x : List Float) (l : Rows) (i : ℕ) (x' : List Float) (l' : Rows) (y : List Float) : Type 0 where
-  pub within : i ≤ m
+pub record Taking (n m : Size) (h : Rows) (r z x : List Float) (l : Rows) (i : ℕ) (x' : List Float) (l' : Rows) (y : List Float) : Type 0 where
+  pub within : i ≤ count m
   pub told : Vector
   pub left : Left Factored
-  pub so_far : components (channel n m h r) i (cut m z) (factored_rows n x l) ≡ record { told = Ok told; left = left }
+  pub so_far : components (channel_rows n m h r) i (front m z) (factored_rows n x l) ≡ record { told = Ok told; left = left }
   pub arrays : (x', l') ≡ standing arrays_of (x, l) left
   pub used : factored_rows n x' l' ≡ final (factored_rows n x l) left
   pub innovations : y ≡ pad_row told
   pub size : length told ≡ i
 
-pub taking_none : (n : Size) (m : ℕ) (h : Rows) (r z x : List Float) (l : Rows) → Taking n m h r z x l 0 x l (replicate 4 +0)
+pub taking_none : (n m : Size) (h : Rows) (r z x : List Float) (l : Rows) → Taking n m h r z x l 0 x l (replicate 4 +0)
 unfolding components
 taking_none n m h r z x l = record { within = omega arith; told = []; left = unchanged; so_far = refl; arrays = refl; used = refl; innovations = refl; size = refl }
 
-module _ {n : Size} {m : ℕ} {h : Rows} {r z x : List Float} {l : Rows} {i : ℕ} {x' : List Float} {l' : Rows} {y : List Float} (t : Taking n m h r z x l i x' l' y) (M : m ≤ 4) (g : i < m) where
+module _ {n m : Size} {h : Rows} {r z x : List Float} {l : Rows} {i : ℕ} {x' : List Float} {l' : Rows} {y : List Float} (t : Taking n m h r z x l i x' l' y) (g : i < count m) where
   abbrev N : ℕ
   N = count n
+
+  abbrev M : ℕ
+  M = count m
 
   abbrev F : Factored
   F = factored_rows n x l
 
   abbrev first : ℕ → Outcome Factored Vector
-  first k = components (channel n m h r) k (cut m z) F
+  first k = components (channel_rows n m h r) k (front m z) F
 
   abbrev step : Outcome Factored Vector
   step = component N (front n (row h i)) (at r i) (at z i) (factored_rows n x' l') []
@@ -131,8 +131,8 @@ module _ {n : Size} {m : ℕ} {h : Rows} {r z x : List Float} {l : Rows} {i : �
   unfolding components
   next q =
       ap first (add-one i)
-      ∙ ap (λ (o : Outcome Factored Vector). onward F o (component N (row (used m N h) i) (at (cut m r) i) (at (cut m z) i))) t.so_far
-      ∙ (λ k. from (component N (row-used m N h i g k) (at_cut m r i g k) (at_cut m z i g k) (sym t.used k) t.told))
+      ∙ ap (λ (o : Outcome Factored Vector). onward F o (component N (row (used M N h) i) (at (cut M r) i) (at (cut M z) i))) t.so_far
+      ∙ (λ k. from (component N (row-used M N h i g k) (at_cut M r i g k) (at_cut M z i g k) (sym t.used k) t.told))
       ∙ ap from (component-after N (front n (row h i)) (at r i) (at z i) (factored_rows n x' l') t.told)
       ∙ ap on q
 
@@ -140,7 +140,7 @@ module _ {n : Size} {m : ℕ} {h : Rows} {r z x : List Float} {l : Rows} {i : �
     pub taking_more : {b : Float} → v ≡ Ok b → Taking n m h r z x l (i + 1) x'' l'' (set y i b)
     taking_more {b} d =
         let u = was_taken (x', l') {n = n} ways e d in
-        let four : length t.told < 4 = omega (arith, t.size) in
+        let four : length t.told < 4 = omega (arith, t.size, bounds m) in
         record {
           within = omega arith;
           told = t.told ++ b ∷ [];
@@ -156,29 +156,23 @@ module _ {n : Size} {m : ℕ} {h : Rows} {r z x : List Float} {l : Rows} {i : �
 
     -- a refusal stands
     pub taking_refused : {j : Refusal} → v ≡ Err j
-        → (Err j, (x'', l'')) ≡ handed as_vector arrays_of (x, l) (update (channel n m h r) (cut m z) F)
+        → (Err j, (x'', l'')) ≡ handed as_vector arrays_of (x, l) (update (channel_rows n m h r) (front m z) F)
     unfolding components update
     taking_refused {j} d =
         let s = was_stopped (x', l') ways e d in
         let end : Outcome Factored Vector = record { told = Err j; left = later t.left s.left } in
-        let all : first m ≡ end =
+        let all : first M ≡ end =
         le_ind {n = i + 1} (λ k. first k ≡ end) (next s.is)
-        (λ k f p. ap (λ (o : Outcome Factored Vector). onward F o (component N (row (used m N h) k) (at (cut m r) k) (at (cut m z) k))) p)
-        m (omega arith) in
+        (λ k f p. ap (λ (o : Outcome Factored Vector). onward F o (component N (row (used M N h) k) (at (cut M r) k) (at (cut M z) k))) p)
+        M (omega arith) in
         (λ k. (Err j, (s.arrays ∙ (λ q. standing arrays_of (t.arrays q) s.left) ∙ standing-later (x, l) t.left s.left) k))
         ∙ sym (ap (handed as_vector arrays_of (x, l)) all)
 
-pub taking_all : {n : Size} {m : ℕ} {h : Rows} {r z x : List Float} {l : Rows} {i : ℕ} {x' : List Float} {l' : Rows} {y : List Float}
-    → Taking n m h r z x l i x' l' y → m ≤ i
-    → (Ok y, (x', l')) ≡ handed as_vector arrays_of (x, l) (update (channel n m h r) (cut m z) (factored_rows n x l))
+pub taking_all : {n m : Size} {h : Rows} {r z x : List Float} {l : Rows} {i : ℕ} {x' : List Float} {l' : Rows} {y : List Float}
+    → Taking n m h r z x l i x' l' y → count m ≤ i
+    → (Ok y, (x', l')) ≡ handed as_vector arrays_of (x, l) (update (channel_rows n m h r) (front m z) (factored_rows n x l))
 unfolding update
 taking_all {n} {m} {h} {r} {z} {x} {l} {i} t g =
-    let same : m ≡ i = omega (arith, t.within) in
+    let same : count m ≡ i = omega (arith, t.within) in
     (λ k. (Ok (t.innovations k), t.arrays k))
-    ∙ sym (ap (handed as_vector arrays_of (x, l)) (ap (λ (k : ℕ). components (channel n m h r) k (cut m z) (factored_rows n x l)) same ∙ t.so_far))
-
--- m is the number of a size
-pub by_size : (n m : Size) (h : Rows) (r z x : List Float) (l : Rows) {k : ℕ} {y : Answer (List Float) × (List Float × Rows)} → k ≡ count m
-    → y ≡ handed as_vector arrays_of (x, l) (update (channel n k h r) (cut k z) (factored_rows n x l))
-    → y ≡ handed as_vector arrays_of (x, l) (update (channel_rows n m h r) (front m z) (factored_rows n x l))
-by_size n m h r z x l e q = q ∙ ap (λ (k : ℕ). handed as_vector arrays_of (x, l) (update (channel n k h r) (cut k z) (factored_rows n x l))) e
+    ∙ sym (ap (handed as_vector arrays_of (x, l)) (ap (λ (k : ℕ). components (channel_rows n m h r) k (front m z) (factored_rows n x l)) same ∙ t.so_far))

@@ -19,7 +19,8 @@ use sizes::Size;
 
 // ---- the downdate of l by v, column by column
 
-// The root of a turned diagonal's square d. At or below zero it is refused with 4; a NaN passes.
+// The root of a turned diagonal's square d. Refused as not positive definite: at or below zero; a NaN passes.
+#[tactic(auto, unfolding(filtering::specs::SquareRoot::turned_diagonal))]
 pub fn turned_diagonal(d: f64) -> Result<f64, Refusal>
     ensures { result ≡ turned_diagonal d }
 {
@@ -31,6 +32,7 @@ pub fn turned_diagonal(d: f64) -> Result<f64, Refusal>
 }
 
 // Column k turned with v: d on its diagonal, and the cells below it. Written out by choices, so that a compiler makes no jump.
+#[tactic(auto, unfolding(crate::specs::Step::turned_column))]
 fn turned_column(column: [f64; 4], v: [f64; 4], k: usize, d: f64, c: f64, s: f64) -> [f64; 4]
     ensures { result ≡ turned_column k d c s column v }
 {
@@ -54,6 +56,7 @@ fn turned_column(column: [f64; 4], v: [f64; 4], k: usize, d: f64, c: f64, s: f64
 }
 
 // v turned with column k as it was.
+#[tactic(auto, unfolding(crate::specs::Step::turned_vector))]
 fn turned_vector(column: [f64; 4], v: [f64; 4], k: usize, c: f64, s: f64) -> [f64; 4]
     ensures { result ≡ turned_vector k c s column v }
 {
@@ -64,6 +67,7 @@ fn turned_vector(column: [f64; 4], v: [f64; 4], k: usize, c: f64, s: f64) -> [f6
 }
 
 // l with another column k.
+#[tactic(auto, unfolding(crate::specs::Step::with_column))]
 fn with_column(l: &[[f64; 4]; 4], k: usize, column: [f64; 4]) -> [[f64; 4]; 4]
     ensures { result ≡ with_column k column l.now }
 {
@@ -74,8 +78,8 @@ fn with_column(l: &[[f64; 4]; 4], k: usize, column: [f64; 4]) -> [[f64; 4]; 4]
     [r0, r1, r2, r3]
 }
 
-// Column k of the n × n part of l, turned with v. Refused with 4: the diagonal.
-#[tactic(auto, using(crate::proofs::Columns::at_most_four))]
+// Column k of the n × n part of l, turned with v. Refused as not positive definite: the diagonal.
+#[tactic(auto, using(crate::proofs::Columns::at_most_four, crate::proofs::Columns::when_refused))]
 fn rotate(l: &mut [[f64; 4]; 4], v: &mut [f64; 4], k: usize, n: Size) -> Result<(), Refusal>
     requires { k < count n }
     ensures { (result, (l.new, v.new))
@@ -93,12 +97,14 @@ fn rotate(l: &mut [[f64; 4]; 4], v: &mut [f64; 4], k: usize, n: Size) -> Result<
     Ok(())
 }
 
-// All columns. Refused with 4: a column's diagonal; the columns before it are turned.
+// All columns. Refused as not positive definite: a column's diagonal; the columns before it are turned.
+#[tactic(auto, using(crate::proofs::Downdates::turns))]
 pub fn downdate(l: &mut [[f64; 4]; 4], v: [f64; 4], n: Size) -> Result<(), Refusal>
     ensures { (result, l.new) ≡ handed ended pad l.old (rotated (count n) (count n) (part n n l.old) (front n v)) }
 {
     let columns = usize::from(n);
     let mut w = v;
+    // The index is a column of l and a place in w, which the columns before have turned.
     for k in 0..columns {
         rotate(l, &mut w, k, n)?;
     }
@@ -107,7 +113,8 @@ pub fn downdate(l: &mut [[f64; 4]; 4], v: [f64; 4], n: Size) -> Result<(), Refus
 
 // ---- one component of a measurement
 
-// A variance. At or below zero it is refused with 3; a NaN passes.
+// A variance. Refused as singular: at or below zero; a NaN passes.
+#[tactic(auto, unfolding(filtering::specs::SquareRoot::variance))]
 pub fn variance(s: f64) -> Result<f64, Refusal>
     ensures { result ≡ variance_of s }
 {
@@ -119,6 +126,7 @@ pub fn variance(s: f64) -> Result<f64, Refusal>
 }
 
 // v / s
+#[tactic(auto, unfolding(filtering::specs::SquareRoot::vec_over))]
 fn over(v: [f64; 4], s: f64) -> [f64; 4]
     ensures { result ≡ vec_over 4 v s }
 {
@@ -126,8 +134,8 @@ fn over(v: [f64; 4], s: f64) -> [f64; 4]
 }
 
 // x and l corrected by the measurement z of one component, whose row of H is h and whose deviation is r; the innovation is z less
-// h times the state before. Refused with 3: the variance, and nothing changes; with 4: a column of the downdate. The state
-// is then the new one, and the columns before it are turned.
+// h times the state before. Refused as singular: the variance, and nothing changes; as not positive definite: a column of the
+// downdate. The state is then the new one, and the columns before it are turned.
 pub fn component<'a>(
     h: &'a [f64; 4],
     r: f64,
@@ -166,8 +174,9 @@ pub fn covariance(l: &[[f64; 4]; 4], n: Size) -> [[f64; 4]; 4]
     rows::leading_rows(r0, r1, r2, r3, n, n)
 }
 
-// x and l one step on, with the input u. Refused with 4: the new covariance has no factor; x is then the new state, and l
-// the old factor.
+// x and l one step on, with the input u. Refused as not positive definite: the new covariance has no factor; x is then the new
+// state, and l the old factor.
+#[tactic(auto, using(crate::proofs::Predictions::unfactored), unfolding(filtering::specs::Filter::predicted_state))]
 pub fn predict<'a>(
     a: &'a [[f64; 4]; 4],
     b: &'a [[f64; 4]; 4],
@@ -198,8 +207,9 @@ pub fn predict<'a>(
     }
 }
 
-// x and l corrected by the measurement z, one component after another; the innovations in order. Refused with 3 or 4: a
-// component; x and l are as that component leaves them.
+// x and l corrected by the measurement z, one component after another; the innovations in order. Refused as its first refused
+// component is; x and l are as that component leaves them.
+#[tactic(auto, using(crate::proofs::Updates::taking_none, crate::proofs::Updates::taking_more))]
 pub fn update<'a>(
     h: &'a [[f64; 4]; 4],
     r: &'a [f64; 4],

@@ -1,59 +1,21 @@
 -- `sqrt_kalman_covariance` meets its contract: the factor times itself transposed.
-use native.Mathlib.Omega.{arith}
-use mathlib.Core.Path.{refl, sym, ap, ◌∙◌}
-use mathlib.Core.Bool.{Bool}
-use mathlib.Core.List.{List}
-use Prim.Native.Nat.{ℕ, ◌*◌}
-use lib.Dec.{eqb}
+use mathlib.Core.Path.{◌∙◌}
 use lib.ListN.{length}
-use lib.Ieee.{Float}
-use borrow.Author.Tests.{eq-eqb, ne_eqb}
-use Rattle.answer.specs.Told.{given}
-use Rattle.answer.specs.Answer.{where_sized}
-use Rattle.c_sqrt_kalman.specs.Root.{factored_at, is_filter, is_step}
-use Rattle.sizes.proofs.Sizes.{is_count}
+use Rattle.std.specs.Prelude.{Ok}
+use Rattle.answer.specs.Told.{written}
+use Rattle.matrix.proofs.Results.{as_answered}
 use Rattle.layout.specs.Layout.{joined}
 use Rattle.filtering.specs.SquareRoot.{covariance}
-use Rattle.steps.proofs.Sizes.{well_sized_lem}
-use Rattle.c_copies.proofs.Filters.{and_tested, and_failed}
+use Rattle.c_copies.proofs.Filters.{filter_given, length_given, square-passed}
+use Rattle.c_sqrt_kalman.specs.Root.{factored_at}
 use Rattle.c_sqrt_kalman.proofs.Starts.{covers}
-use Rattle.c_sqrt_kalman.proofs.Filters.{whole_of}
 use Rattle.c_sqrt_kalman.proofs.sqrt_kalman_covariance.Goals as goal
 
--- by the test of the sizes
-abbrev by : ℕ → ℕ → ℕ → List Float → List Float → Bool → ℕ × List Float
-by n m i f o b = given o (where_sized b (joined (covariance n (factored_at n m i f))))
-
-pub returns-then-out-n : goal.returns-then-out-n
-unfolding is_step
-returns-then-out-n c =
+pub returns : goal.returns
+returns c =
     let a = c.args in
-    let s = (whole_of _ _ _ _ (sym c.is_filter.ensures ∙ c.if-is_filter.true)) in
-    let is = covers a.n a.m a.i a.filter.now s c.size_of-size.result (is_count (well_sized_lem _ _ _ s.sizes).states c.size_of-size.ensures) (omega (arith, c.state_place.ensures)) c.matrix_at-l.ensures
-    c.covariance-p.ensures a.out.now c.if-out-n.true c.put_matrix.ensures in
-    (λ j. (0, is j))
-    ∙ ap (by a.n a.m a.i a.filter.now a.out.now)
-    (sym (sym (and_tested (is_filter a.n a.m a.i (length a.filter.now)) (eqb (length a.out.now) (a.n * a.n)) c.is_filter.ensures c.if-is_filter.true refl) ∙ eq-eqb _ _ c.if-out-n.true))
-
-pub returns-else-out-n : goal.returns-else-out-n
-unfolding is_step
-returns-else-out-n c =
-    let a = c.args in
-    ap (by a.n a.m a.i a.filter.now a.out.now)
-    (sym (sym (and_tested (is_filter a.n a.m a.i (length a.filter.now)) (eqb (length a.out.now) (a.n * a.n)) c.is_filter.ensures c.if-is_filter.true refl) ∙ ne_eqb _ _ c.if-out-n.false))
-
-pub returns-else-is_filter : goal.returns-else-is_filter
-unfolding is_step
-returns-else-is_filter c =
-    let a = c.args in
-    ap (by a.n a.m a.i a.filter.now a.out.now)
-    (and_failed (is_filter a.n a.m a.i (length a.filter.now)) (eqb (length a.out.now) (a.n * a.n)) c.is_filter.ensures c.if-is_filter.false)
-
-pub overflow_mul-n : goal.overflow_mul-n
-overflow_mul-n c = omega (arith, (whole_of _ _ _ _ (sym c.is_filter.ensures ∙ c.if-is_filter.true)).few)
-
-pub state_place-requires : goal.state_place-requires
-state_place-requires c = (whole_of _ _ _ _ (sym c.is_filter.ensures ∙ c.if-is_filter.true)).sizes
-
-pub overflow_add-from : goal.overflow_add-from
-overflow_add-from c = omega (arith, (whole_of _ _ _ _ (sym c.is_filter.ensures ∙ c.if-is_filter.true)).few, c.state_place.ensures)
+    let f = a.filter.now in
+    let s = filter_given (λ m. 1) a.n a.m a.i (length f) c.in_ok-at.ensures in
+    let l = length_given c.in_ok-fits.ensures in
+    let is = covers f s.at c.matrix_at-s.ensures c.covariance-p.ensures a.out.now (l ∙ s.at.square) c.put_matrix.ensures in
+    as_answered (written a.out.now) (joined (covariance a.n (factored_at a.n a.m a.i f))) (square-passed (λ m. 1) a.n a.m a.i (length f) s.passed s.at.square l) (λ t. (Ok tt, is t))

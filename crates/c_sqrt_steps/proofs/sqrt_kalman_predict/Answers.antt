@@ -11,8 +11,8 @@ pub returns-then-is_road : goal.returns-then-is_road
 returns-then-is_road c =
     let a = c.args in
     let b = a.filter.now in
-    predicts b a.u.now (road_of _ _ _ _ _ (sym c.is_road.ensures ∙ c.if-is_road.true)) c.road_at-f.result (road_read b (road_of _ _ _ _ _ (sym c.is_road.ensures ∙ c.if-is_road.true)).long c.road_at-f.ensures) c.predict-v.ensures
-    (pair_put b c.predict-v.result.left (road_of _ _ _ _ _ (sym c.is_road.ensures ∙ c.if-is_road.true)).long c.put_road.ensures) c.number_of.ensures
+    let R = road_of a.n a.m a.i _ _ (sym c.is_road.ensures ∙ c.if-is_road.true) in
+    predicts b a.u.now R c.road_at-f.result (road_read b R.long c.road_at-f.ensures) c.predict-answer.ensures (pair_put b c.predict-answer.new.g R.long c.put_road.ensures)
 
 pub returns-then-is_plane : goal.returns-then-is_plane
 returns-then-is_plane c =
@@ -21,4 +21,4 @@ returns-then-is_plane c =
     c.predict_rows.ensures ∙ λ k. predict_in (p.states k) (p.measurements k) (p.inputs k) a.filter.now a.u.now
 
 pub bounds-u-0 : goal.bounds-u-0
-bounds-u-0 c = omega (arith, (road_of _ _ _ _ _ (sym c.is_road.ensures ∙ c.if-is_road.true)).one)
+bounds-u-0 c = let a = c.args in omega (arith, (road_of a.n a.m a.i _ _ (sym c.is_road.ensures ∙ c.if-is_road.true)).one)

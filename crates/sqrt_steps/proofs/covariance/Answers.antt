@@ -17,7 +17,6 @@ use Rattle.filtering.specs.SquareRoot.{covariance}
 use Rattle.sqrt_steps.proofs.covariance.Goals as goal
 
 -- the four rows of l, each times transposed l, of which n are used
--- the four rows of l, each times transposed l, of which n are used
 module _ (n : Size) (l : List (List Float)) {r0 r1 r2 r3 : List Float}
     (e0 : r0 ≡ row_times_transposed (count n) (row l 0) l)
     (e1 : r1 ≡ row_times_transposed (count n) (row l 1) l)

@@ -1,6 +1,6 @@
 -- `predict` meets its contract: by what Cholesky answers.
 use Rattle.filtering.specs.Filter.{predicted_state}
-use Rattle.sqrt_steps.proofs.Predictions.{factorization, when_factored, when_unfactored}
+use Rattle.sqrt_steps.proofs.Predictions.{factorization, when_factored}
 use Rattle.sqrt_steps.proofs.predict.Goals as goal
 
 pub returns-in-Ok : goal.returns-in-Ok
@@ -9,10 +9,3 @@ returns-in-Ok c =
     let a = c.args in
     when_factored a.n a.i a.a.now a.b.now a.q.now a.u.now a.x.now a.l.now c.predicted_state.ensures
     (factorization a.n a.i a.a.now a.b.now a.q.now a.u.now a.x.now a.l.now c.covariance-p.ensures c.propagated-s.ensures c.factor_of.ensures) c.in-Ok.is
-
-pub returns-in-Err : goal.returns-in-Err
-unfolding predicted_state
-returns-in-Err c =
-    let a = c.args in
-    when_unfactored a.n a.i a.a.now a.b.now a.q.now a.u.now a.x.now a.l.now c.predicted_state.ensures
-    (factorization a.n a.i a.a.now a.b.now a.q.now a.u.now a.x.now a.l.now c.covariance-p.ensures c.propagated-s.ensures c.factor_of.ensures) c.in-Err.is c.used_part.ensures

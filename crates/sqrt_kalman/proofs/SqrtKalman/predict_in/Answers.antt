@@ -4,11 +4,11 @@ use Rattle.answer.specs.Outcome.{handed}
 use Rattle.sizes.specs.Size.{count, front}
 use Rattle.filtering.specs.SquareRoot.{predict}
 use Rattle.steps.proofs.Flats.{read-motion}
-use Rattle.steps.proofs.Records.{around}
+use Rattle.steps.proofs.Records.{around, by_sizes}
 use Rattle.steps.proofs.Sizes.{fitted_given}
 use Rattle.sqrt_steps.specs.Step.{arrays_of}
 use Rattle.sqrt_kalman.specs.Record.{flats_of, keeping, predicting}
-use Rattle.sqrt_kalman.proofs.Records.{predict_by, read-factored, rows-flat, by_sizes}
+use Rattle.sqrt_kalman.proofs.Records.{predict_by, read-factored, rows-flat}
 use Rattle.sqrt_kalman.proofs.SqrtKalman.predict_in.Goals as goal
 
 pub returns : goal.returns

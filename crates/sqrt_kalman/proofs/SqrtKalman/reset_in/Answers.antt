@@ -1,6 +1,7 @@
 -- `reset_in` meets its contract: by what Cholesky answers.
-use mathlib.Core.Path.{◌∙◌}
-use Rattle.small_inverse.proofs.Exits.{exit}
+use mathlib.Core.Path.{◌≡◌, ◌∙◌}
+use Rattle.std.proofs.Common.{rules}
+use Rattle.std.specs.Prelude.{Err}
 use Rattle.steps.proofs.Records.{around}
 use Rattle.steps.proofs.Sizes.{fitted_given}
 use Rattle.sqrt_kalman.specs.Record.{flats_of, keeping, resetting}
@@ -20,5 +21,6 @@ returns-in_err-s c =
     let a = c.args in
     let f = a.self.now in
     let s = fitted_given f.n f.m f.i f.n a.k c.fitted.ensures c.in_ok-n.was in
+    let e : c.from_residual-in_err-s.result ≡ Err c.in_err-s.field-0.0 = search rules in
     around (λ t. t) flats_of (keeping f) (f.x, f.s_chol) (resetting f a.x.now a.p.now a.k)
-    ((λ i. (exit c.from_residual-in_err-s.ensures.1 i, (f.x, f.s_chol))) ∙ reset_refused f.x f.s_chol a.x.now a.p.now f.n s.passed s.states c.factor_of.ensures c.in_err-s.was)
+    ((λ i. (e i, (f.x, f.s_chol))) ∙ reset_refused f.x f.s_chol a.x.now a.p.now f.n s.passed s.states c.factor_of.ensures c.in_err-s.was)

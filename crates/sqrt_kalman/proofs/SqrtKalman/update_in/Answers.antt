@@ -5,11 +5,11 @@ use Rattle.algebra.specs.Array.{cut}
 use Rattle.sizes.specs.Size.{count, front}
 use Rattle.matrix.specs.Result.{as_vector}
 use Rattle.filtering.specs.SquareRoot.{update}
-use Rattle.steps.proofs.Records.{around}
+use Rattle.steps.proofs.Records.{around, by_sizes}
 use Rattle.steps.proofs.Sizes.{fitted_given}
 use Rattle.sqrt_steps.specs.Step.{arrays_of}
 use Rattle.sqrt_kalman.specs.Record.{flats_of, keeping, updating}
-use Rattle.sqrt_kalman.proofs.Records.{update_by, read-channel, read-factored, rows-flat, by_sizes}
+use Rattle.sqrt_kalman.proofs.Records.{update_by, read-channel, read-factored, rows-flat}
 use Rattle.sqrt_kalman.proofs.SqrtKalman.update_in.Goals as goal
 
 pub returns : goal.returns

@@ -1,5 +1,0 @@
--- `predict` meets its contract: the step on a lent copy.
-use Rattle.sqrt_kalman.proofs.SqrtKalman.predict.Goals as goal
-
-pub returns : goal.returns
-returns c = λ k. record { answer = (c.predict_in-answer.ensures k).0; left = (c.predict_in-answer.ensures k).1 }
