@@ -2,8 +2,7 @@ pub mod Spaced
 pub mod Series
 pub mod Serials
 pub mod Banks
-pub mod Puts
+pub mod Readings
 pub mod Steps
 pub mod Mixes
-pub mod MixCalls
 pub mod Rowing

@@ -2,11 +2,13 @@
 use mathlib.Core.Path.{◌≡◌, refl, sym, ap, ◌∙◌}
 use mathlib.Core.List.{List}
 use Prim.Native.Nat.{ℕ, ◌+◌, ◌*◌, ◌≤◌, ◌<◌}
-use native.Mathlib.Nat.{mul-le-mul}
 use native.Mathlib.Numerals.{add-one}
 use native.Mathlib.Omega.{arith}
 use lib.ListN.{length}
 use lib.Ieee.{Float}
+use Rattle.sizes.specs.declared.Size.{Size}
+use Rattle.sizes.specs.Size.{count}
+use Rattle.sizes.proofs.Sizes.{bounds}
 use Rattle.layout.specs.Layout.{placed}
 use Rattle.layout.proofs.Places.{length-placed}
 use Rattle.c_bank.specs.Bank.{series}
@@ -16,22 +18,20 @@ use Rattle.c_bank.proofs.Spaced.{reaches}
 pub record Serial (q step : ℕ) (g : ℕ → List Float) (b : List Float) (k i : ℕ) (l : List Float) : Type 0 where
   pub within : i ≤ k
   pub few : k ≤ 4
-  pub start : q ≤ 212
-  pub stride : step ≤ 53
   pub fits : q + k * step + 4 ≤ length b + step
   pub each : (j : ℕ) → length (g j) ≤ 4
   pub is : l ≡ series i q step g b
   pub long : length l ≡ length b
 
-pub serial_none : (q step : ℕ) (g : ℕ → List Float) (b : List Float) (k : ℕ) → k ≤ 4 → q ≤ 212 → step ≤ 53 → q + k * step + 4 ≤ length b + step → ((j : ℕ) → length (g j) ≤ 4) → Serial q step g b k 0 b
+pub serial_none : (q step : ℕ) (g : ℕ → List Float) (b : List Float) (s : Size) {k : ℕ} → k ≡ count s → q + count s * step + 4 ≤ length b + step → ((j : ℕ) → length (g j) ≤ 4)
+    → Serial q step g b k 0 b
 unfolding series
-serial_none q step g b k a c d e f = record { within = omega arith; few = a; start = c; stride = d; fits = e; each = f; is = refl; long = refl }
+serial_none q step g b s {k} e r f =
+    let all : k * step ≡ count s * step = ap (λ (k : ℕ). k * step) e in
+    record { within = omega arith; few = omega (arith, e, bounds s); fits = omega arith; each = f; is = refl; long = refl }
 
 pub serial_room : {q step : ℕ} {g : ℕ → List Float} {b : List Float} {k i : ℕ} {l : List Float} → Serial q step g b k i l → i < k → q + i * step + 4 ≤ length l
 serial_room {q} {step} {g} {b} {k} {i} v h = omega (arith, v.long, reaches q step k 4 (length b) i h v.fits)
-
-pub serial_place : {q step : ℕ} {g : ℕ → List Float} {b : List Float} {k i : ℕ} {l : List Float} → Serial q step g b k i l → i < k → i * step ≤ 212
-serial_place {q} {step} {g} {b} {k} {i} v h = let few : i ≤ 4 = omega (arith, v.few) in mul-le-mul few v.stride
 
 pub serial_more : {q step : ℕ} {g : ℕ → List Float} {b : List Float} {k i : ℕ} {l l₁ u : List Float} → Serial q step g b k i l → i < k → u ≡ g i → l₁ ≡ placed (q + i * step) u l → Serial q step g b k (i + 1) l₁
 unfolding series
@@ -40,8 +40,6 @@ serial_more {q} {step} {g} {b} {k} {i} {l} {l₁} v h e d =
     record {
       within = omega arith;
       few = v.few;
-      start = v.start;
-      stride = v.stride;
       fits = v.fits;
       each = v.each;
       is = put ∙ ap (placed (q + i * step) (g i)) v.is ∙ ap (λ (j : ℕ). series j q step g b) (sym (add-one i));

@@ -1,17 +1,16 @@
 -- A bank of models in one slice: its parts one after another, by rows; and what each call tells and leaves. Definitions only.
-use Rattle.std.specs.Prelude.{ℕ, zero, suc, ◌+◌, ◌*◌, List, [], ◌∷◌, ◌++◌, Bool, ◌&&◌, eqb, ltb, length, replicate, Float}
+use Rattle.std.specs.Prelude.{ℕ, zero, suc, ◌+◌, ◌*◌, List, [], ◌∷◌, ◌++◌, Bool, ◌&&◌, eqb, ltb, length, Float}
 use Rattle.answer.specs.Answer.{Answer, where_sized}
 use Rattle.answer.specs.Outcome.{into, handed}
-use Rattle.answer.specs.Told.{number_of}
-use Rattle.answer.specs.Table.{table, pad_to}
-use Rattle.scalar.specs.Number.{+0}
+use Rattle.answer.specs.Table.{table}
 use Rattle.algebra.specs.Matrix.{Matrix, at, cell, sum_of}
-use Rattle.algebra.specs.Array.{pad}
+use Rattle.sizes.specs.Size.{size_of}
 use Rattle.filtering.specs.Filter.{Estimate, estimate}
 use Rattle.mixing.specs.Mixing.{Bank, model, uniform, mix_estimates, update_probabilities, fused_estimate}
 use Rattle.imm_steps.specs.Bank.{spread_term}
-use Rattle.layout.specs.Layout.{vector_at, matrix_at, matrix_in, joined, placed, total, offset, part_at, model_parts, model_length, bank_parts}
+use Rattle.layout.specs.Layout.{vector_at, matrix_at, joined, placed, total, offset, part_at, model_parts, model_length, bank_parts}
 use Rattle.steps.specs.Step.{well_sized}
+use Rattle.c_bank.specs.declared.places.Places.{Places}
 
 -- ---- sizes and places
 
@@ -22,6 +21,21 @@ model_place n i j = i * model_length n + offset (model_parts n) j
 -- where the probabilities begin
 abbrev pub probabilities_place : ℕ → ℕ → ℕ → ℕ
 probabilities_place n m k = offset (bank_parts n m k) 4
+
+-- where the parts stand, with the sizes by their type: those of the first model, then those behind the models
+abbrev pub places_of : ℕ → ℕ → ℕ → Places
+places_of n m k = record {
+  n = size_of n;
+  k = size_of k;
+  step = model_length n;
+  x = model_place n 0 1;
+  p = model_place n 0 2;
+  likelihood = model_place n 0 4;
+  transition = offset (bank_parts n m k) 1;
+  c = offset (bank_parts n m k) 2;
+  r = offset (bank_parts n m k) 3;
+  mu = probabilities_place n m k;
+}
 
 -- a slice of l numbers is just a bank
 unfoldable pub is_bank : ℕ → ℕ → ℕ → ℕ → Bool
@@ -39,10 +53,6 @@ is_model n m k l j = is_bank n m k l && ltb j k
 unfoldable pub is_parts : ℕ → ℕ → ℕ → ℕ → ℕ → ℕ → ℕ → ℕ → Bool
 is_parts n m k l a t c r = is_bank n m k l && ((eqb a (k * model_length n) && eqb t (k * k)) && (eqb c (m * n) && eqb r (m * m)))
 
--- two models of one road, two states each
-unfoldable pub is_roads : ℕ → ℕ → ℕ → ℕ → Bool
-is_roads n m k l = (eqb n 2 && eqb k 2) && is_bank n m k l
-
 -- ---- what the slice b holds
 abbrev pub estimate_at : ℕ → List Float → ℕ → Estimate
 estimate_at n b i = estimate (vector_at n b (model_place n i 1)) (matrix_at n n b (model_place n i 2))
@@ -57,14 +67,6 @@ bank_at n m k b = record {
 abbrev pub transition_at : ℕ → ℕ → ℕ → List Float → Matrix
 transition_at n m k b = part_at (bank_parts n m k) b 1
 
--- ---- and in arrays, as the code reads it: a place outside the slice reads as +0
-abbrev pub covariances_in : ℕ → ℕ → List Float → List (List (List Float))
-covariances_in n k b = pad_to 4 (replicate 4 (replicate 4 +0)) (table k (λ i. pad (matrix_in n n b (model_place n i 1 + n))))
-
--- the estimates and the transition of two models of one road
-abbrev pub roads_in : List Float → Estimate × (Estimate × Matrix)
-roads_in b = (estimate_at 2 b 0, (estimate_at 2 b 1, matrix_at 2 2 b 30))
-
 -- ---- numbers g i for each of the first k models, from number q on, a step apart
 unfoldable pub series : ℕ → ℕ → ℕ → (ℕ → List Float) → List Float → List Float
 series zero q step g b = b
@@ -75,9 +77,9 @@ abbrev pub mixed_row_in : ℕ → ℕ → ℕ → Matrix → Matrix → Matrix �
 mixed_row_in n K step x m w b q r j =
     table n (λ c. sum_of K (λ i. spread_term (at b (q + i * step + c)) (cell x i r) (cell m j r) (cell x i c) (cell m j c) (cell w i j)))
 
--- all its rows
-abbrev pub mixed_rows_in : ℕ → ℕ → Matrix → Matrix → Matrix → List Float → ℕ → Matrix
-mixed_rows_in n K x m w b j = table n (λ r. mixed_row_in n K (model_length n) x m w b (n * n + n + r * n) r j)
+-- all its rows, where the first model's covariance stands from number p on
+abbrev pub mixed_rows_in : ℕ → ℕ → ℕ → Matrix → Matrix → Matrix → List Float → ℕ → ℕ → Matrix
+mixed_rows_in n K step x m w b p j = table n (λ r. mixed_row_in n K step x m w b (p + r * n) r j)
 
 -- ---- what is placed there: the estimates of the first k models of B, each in its place; then the probabilities too
 unfoldable pub with_estimates : ℕ → ℕ → List Float → Bank → List Float
@@ -94,12 +96,12 @@ with_bank n m k b B = with_probabilities n m k (with_estimates n k b B) B
 abbrev pub mixed_in : ℕ → ℕ → ℕ → List Float → Bank
 mixed_in n m k b = mix_estimates n k (transition_at n m k b) (bank_at n m k b)
 
--- ---- the calls: 1 where a size or a length does not fit
-abbrev pub mix_in : ℕ → ℕ → ℕ → List Float → ℕ × List Float
-mix_in n m k b = handed number_of (with_bank n m k b) b (into (where_sized (is_bank n m k (length b)) (mixed_in n m k b)))
+-- ---- the calls: refused where a size or a length does not fit
+abbrev pub mix_in : ℕ → ℕ → ℕ → List Float → Answer (Unit {0}) × List Float
+mix_in n m k b = handed (λ w. w) (with_bank n m k b) b (into (where_sized (is_bank n m k (length b)) (mixed_in n m k b)))
 
-abbrev pub probabilities_in : ℕ → ℕ → ℕ → List Float → ℕ × List Float
-probabilities_in n m k b = handed number_of (with_probabilities n m k b) b (into (where_sized (is_bank n m k (length b)) (update_probabilities k (bank_at n m k b))))
+abbrev pub probabilities_in : ℕ → ℕ → ℕ → List Float → Answer (Unit {0}) × List Float
+probabilities_in n m k b = handed (λ w. w) (with_probabilities n m k b) b (into (where_sized (is_bank n m k (length b)) (update_probabilities k (bank_at n m k b))))
 
 -- the fused state, for a slice of j numbers
 abbrev pub fused_in : ℕ → ℕ → ℕ → List Float → ℕ → Answer (List Float)

@@ -9,21 +9,29 @@ ghost use Rattle.imm_steps.specs.Bank.{spread_term};
 use imm_steps::plus_spread;
 use sizes::Size;
 
+// What the covariances are mixed by: the models' states x, their mixed states m, and the weights w of each in each.
+#[derive(Clone, Copy)]
+pub(crate) struct Mixing<'a> {
+    pub(crate) x: &'a [[f64; 4]; 4],
+    pub(crate) m: &'a [[f64; 4]; 4],
+    pub(crate) w: &'a [[f64; 4]; 4],
+}
+
 // Row r of the covariance of model j, mixed from the rows p of all models.
 pub(crate) fn mixed_row<'a>(
-    p: &'a [[f64; 4]; 4],
-    x: &'a [[f64; 4]; 4],
-    m: &'a [[f64; 4]; 4],
-    w: &'a [[f64; 4]; 4],
+    p: &[[f64; 4]; 4],
+    by: Mixing<'a>,
     j: usize,
     r: usize,
     k: Size,
 ) -> [f64; 4]
     requires { (j < 4) × (r < 4) }
     ensures { result ≡ table 4 (λ c. sum_of (count k) (λ i. spread_term (cell p.now i c)
-        (cell x.now i r) (cell m.now j r) (cell x.now i c) (cell m.now j c) (cell w.now i j))) }
+        (cell by.entry.x.now i r) (cell by.entry.m.now j r) (cell by.entry.x.now i c) (cell by.entry.m.now j c) (cell by.entry.w.now i j))) }
 {
-    let u = m[j];
+    let x = by.x;
+    let w = by.w;
+    let u = by.m[j];
     let y = [
         x[0][r] - u[r],
         x[1][r] - u[r],
@@ -34,21 +42,25 @@ pub(crate) fn mixed_row<'a>(
     imm_steps::mixed_row(p, x, u, y, v, k)
 }
 
-// Row r of the covariance of model j of two, mixed from their rows a and b: m is its mixed state.
+// Row r of the covariance of model j of two, mixed from their rows a and b.
 pub(crate) fn mixed_pair<'a>(
     a: [f64; 4],
     b: [f64; 4],
-    x: &'a [[f64; 4]; 4],
-    m: [f64; 4],
-    w: &'a [[f64; 4]; 4],
+    by: Mixing<'a>,
     j: usize,
     r: usize,
 ) -> [f64; 4]
     requires { (j < 4) × (r < 4) }
-    ensures { result ≡ table 4 (λ c. +0 ⊕ spread_term (at a c) (cell x.now 0 r) (at m r) (cell x.now 0 c) (at m c) (cell w.now 0 j)
-        ⊕ spread_term (at b c) (cell x.now 1 r) (at m r) (cell x.now 1 c) (at m c) (cell w.now 1 j)) }
+    ensures { result ≡ table 4 (λ c. +0
+        ⊕ spread_term (at a c) (cell by.entry.x.now 0 r) (cell by.entry.m.now j r)
+        (cell by.entry.x.now 0 c) (cell by.entry.m.now j c) (cell by.entry.w.now 0 j)
+        ⊕ spread_term (at b c) (cell by.entry.x.now 1 r) (cell by.entry.m.now j r)
+        (cell by.entry.x.now 1 c) (cell by.entry.m.now j c) (cell by.entry.w.now 1 j)) }
 {
+    let x = by.x;
+    let w = by.w;
+    let m = by.m[j];
     let y = m[r];
-    let s1 = plus_spread([0.0; 4], a, x[0], m, x[0][r] - y, w[0][j]);
-    plus_spread(s1, b, x[1], m, x[1][r] - y, w[1][j])
+    let s = plus_spread([0.0; 4], a, x[0], m, x[0][r] - y, w[0][j]);
+    plus_spread(s, b, x[1], m, x[1][r] - y, w[1][j])
 }

@@ -1,77 +1,48 @@
 // src/estimator/imm.rs on a slice that the caller lends: a bank made of its parts, and mixing, with two models of one road written out. What a
-// bank is, mixing for any sizes and what is asked of a bank: crates/c_bank. Refused with 1: a size, or a slice of another length.
-// What is told is a number: the C interface.
+// bank is, mixing for any sizes and what is asked of a bank: crates/c_bank. Refused as a wrong size: a size, or a slice of another length.
 #![tactic(auto)]
 
 ghost use Rattle.std.specs.Prelude.{◌≡◌, ◌++◌, ◌+◌, ◌≤◌, length};
-ghost use Rattle.answer.specs.Told.{given};
-ghost use Rattle.layout.specs.Layout.{joined, placed, total, bank_parts};
+ghost use Rattle.answer.specs.Answer.{where_sized};
+ghost use Rattle.answer.specs.Told.{written};
+ghost use Rattle.filtering.specs.Filter.{estimate};
+ghost use Rattle.layout.specs.Layout.{vector_at, matrix_at, joined, placed};
 ghost use Rattle.road.specs.Road.{matrix_of, estimate_of};
-ghost use Rattle.c_bank.specs.Bank.{is_parts, is_roads, roads_in, with_bank, mixed_in, mix_in, new_in};
+ghost use Rattle.c_bank.specs.Bank.{places_of, is_parts, mix_in, new_in};
 
-use c_bank::is_bank;
+use answer::Refusal;
+use c_bank::Places;
 pub use c_bank::{imm_fused_estimate, imm_model_probability, imm_update_probabilities};
 use imm_road::Roads;
 use road::{Pair, Two};
-use sizes::{both, size_of};
 
-// Two models of one road: their estimates, and the transition.
-#[derive(Clone, Copy)]
-struct RoadBank {
-    first: Pair,
-    second: Pair,
-    transition: Two,
-}
+// ---- two models of one road: two states each, read and written where their numbers stand
 
-// ---- two models of one road: two states each, read where their numbers stand
-
-// The sizes of such a bank of len numbers.
-fn is_roads(n: usize, m: usize, k: usize, len: usize) -> bool
-    ensures { result ≡ is_roads n m k len }
+// Two rows of two numbers, from number k on.
+fn two_at(b: &[f64], k: usize) -> Two
+    requires { k + 4 ≤ length b.now }
+    ensures { matrix_of result ≡ matrix_at 2 2 b.now k }
 {
-    both(both(n == 2, k == 2), is_bank(n, m, k, len))
-}
-
-fn roads_at(b: &[f64]) -> RoadBank
-    requires { 34 ≤ length b.now }
-    ensures { (estimate_of result.first, (estimate_of result.second, matrix_of result.transition)) ≡ roads_in b.now }
-{
-    let p = Two {
-        a: b[6],
-        b: b[7],
-        c: b[8],
-        d: b[9],
-    };
-    let q = Two {
-        a: b[21],
-        b: b[22],
-        c: b[23],
-        d: b[24],
-    };
-    let transition = Two {
-        a: b[30],
-        b: b[31],
-        c: b[32],
-        d: b[33],
-    };
-    let first = Pair {
-        x0: b[4],
-        x1: b[5],
-        p,
-    };
-    let second = Pair {
-        x0: b[19],
-        x1: b[20],
-        p: q,
-    };
-    RoadBank {
-        first,
-        second,
-        transition,
+    Two {
+        a: b[k],
+        b: b[k + 1],
+        c: b[k + 2],
+        d: b[k + 3],
     }
 }
 
-// A pair into its place.
+// A state and its covariance behind it, from number k on.
+fn road_at(b: &[f64], k: usize) -> Pair
+    requires { k + 6 ≤ length b.now }
+    ensures { estimate_of result ≡ estimate (vector_at 2 b.now k) (matrix_at 2 2 b.now (k + 2)) }
+{
+    Pair {
+        x0: b[k],
+        x1: b[k + 1],
+        p: two_at(b, k + 2),
+    }
+}
+
 fn put_road(b: &mut [f64], k: usize, e: Pair)
     requires { k + 6 ≤ length b.old }
     ensures { b.new ≡ placed k ((estimate_of e).state ++ joined (estimate_of e).covariance) b.old }
@@ -81,44 +52,43 @@ fn put_road(b: &mut [f64], k: usize, e: Pair)
     layout::put_slice(b, k, &numbers[..]);
 }
 
-fn mix_roads(m: usize, bank: &mut [f64])
-    requires { length bank.old ≡ total (bank_parts 2 m 2) }
-    ensures { bank.new ≡ with_bank 2 m 2 bank.old (mixed_in 2 m 2 bank.old) }
+fn mix_roads(m: usize, bank: &mut [f64]) -> Result<(), Refusal>
+    ensures { (result, bank.new) ≡ mix_in 2 m 2 bank.old }
 {
-    let from = bank.len() - 2;
-    let r = roads_at(bank);
+    let places = Places::of(2, m, 2, bank.len())?;
+    let next = places.x + places.step;
     let roads = Roads {
-        first: r.first,
-        second: r.second,
-        mu0: bank[from],
-        mu1: bank[from + 1],
+        first: road_at(bank, places.x),
+        second: road_at(bank, next),
+        mu0: bank[places.mu],
+        mu1: bank[places.mu + 1],
     };
-    let x = roads.mix(r.transition);
-    let first = x.first;
-    let second = x.second;
-    let mu = [x.mu0, x.mu1];
-    put_road(bank, 4, first);
-    put_road(bank, 19, second);
-    layout::put_slice(bank, from, &mu[..]);
+    let mixed = roads.mix(two_at(bank, places.transition));
+    let mu = [mixed.mu0, mixed.mu1];
+    put_road(bank, places.x, mixed.first);
+    put_road(bank, next, mixed.second);
+    layout::put_slice(bank, places.mu, &mu[..]);
+    Ok(())
 }
 
 // ---- mixing
 
 // Every model's state and covariance mixed from those of all; mu becomes the predicted probabilities.
-pub fn imm_mix_estimates(n: usize, m: usize, k: usize, bank: &mut [f64]) -> u8
+pub fn imm_mix_estimates(n: usize, m: usize, k: usize, bank: &mut [f64]) -> Result<(), Refusal>
     ensures { (result, bank.new) ≡ mix_in n m k bank.old }
 {
-    if is_roads(n, m, k, bank.len()) {
-        mix_roads(m, bank);
-        return 0;
+    if n == 2 && k == 2 {
+        mix_roads(m, bank)
+    } else {
+        c_bank::mix_rows(n, m, k, bank)
     }
-    c_bank::mix_rows(n, m, k, bank)
 }
 
 // ---- a bank of its parts
 
-// Slices of these lengths are just the parts of a bank of len numbers.
-fn is_parts(
+// The places of a bank, where slices of these lengths are just its parts: each is as long as it is from its place to the next one.
+#[tactic(auto, unfolding(c_bank::specs::Bank::is_parts))]
+fn parts(
     n: usize,
     m: usize,
     k: usize,
@@ -127,16 +97,14 @@ fn is_parts(
     transition: usize,
     c: usize,
     r: usize,
-) -> bool
-    ensures { result ≡ is_parts n m k len models transition c r }
+) -> Result<Places, Refusal>
+    ensures { result ≡ where_sized (is_parts n m k len models transition c r) (places_of n m k) }
 {
-    if is_bank(n, m, k, len) {
-        let beside = k * k + m * n + m * m + k;
-        let own = both(models == len - beside, transition == k * k);
-        both(own, both(c == m * n, r == m * m))
-    } else {
-        false
-    }
+    let places = Places::of(n, m, k, len)?;
+    let own = (models == places.transition) & (transition == places.c - places.transition);
+    let shared = (c == places.r - places.c) & (r == places.mu - places.r);
+    sizes::fits(own & shared)?;
+    Ok(places)
 }
 
 // The bank of the models, one after another, the transition, c and r, each by rows; each probability is 1 / k.
@@ -149,12 +117,11 @@ pub fn imm_new(
     c: &[f64],
     r: &[f64],
     bank: &mut [f64],
-) -> u8
+) -> Result<(), Refusal>
     ensures { (result, bank.new)
-        ≡ given bank.old (new_in n m k (length bank.old) models.now transition.now c.now
-        r.now) }
+        ≡ written bank.old (new_in n m k (length bank.old) models.now transition.now c.now r.now) }
 {
-    if is_parts(
+    let places = parts(
         n,
         m,
         k,
@@ -163,18 +130,11 @@ pub fn imm_new(
         transition.len(),
         c.len(),
         r.len(),
-    ) {
-        let to_c = models.len() + transition.len();
-        let to_r = to_c + c.len();
-        let to_mu = to_r + r.len();
-        let sk = size_of(k);
-        layout::put_slice(bank, 0, models);
-        layout::put_slice(bank, models.len(), transition);
-        layout::put_slice(bank, to_c, c);
-        layout::put_slice(bank, to_r, r);
-        layout::put_vector(bank, to_mu, imm_steps::uniform(sk), sk);
-        0
-    } else {
-        1
-    }
+    )?;
+    layout::put_slice(bank, 0, models);
+    layout::put_slice(bank, places.transition, transition);
+    layout::put_slice(bank, places.c, c);
+    layout::put_slice(bank, places.r, r);
+    layout::put_vector(bank, places.mu, imm_steps::uniform(places.k), places.k);
+    Ok(())
 }

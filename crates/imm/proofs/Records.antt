@@ -13,6 +13,7 @@ use Rattle.algebra.proofs.Arrays.{used-rows_of_flat}
 use Rattle.sizes.specs.declared.Size.{Size}
 use Rattle.sizes.specs.Size.{count, front, part}
 use Rattle.sizes.proofs.Sizes.{bounds}
+use Rattle.steps.proofs.Flats.{read}
 use Rattle.filtering.specs.Filter.{Estimate, estimate}
 use Rattle.mixing.specs.Mixing.{Bank}
 use Rattle.imm_steps.specs.Bank.{bank_rows, rows_of}
@@ -45,7 +46,7 @@ module _ (e : ImmEstimator) (sn sk : Size) (en : count sn ≡ e.n) (ek : count s
 module _ (e : ImmEstimator) (sk : Size) (ek : count sk ≡ e.k) where
   pub transition-held : {t : List (List Float)} → t ≡ rows_of_flat e.transition → part sk sk t ≡ transition_of e
   transition-held q =
-      ap (part sk sk) q ∙ used-rows_of_flat (count sk) (count sk) e.transition (bounds sk).most (bounds sk).most ∙ ap (λ (k : ℕ). used_flat k k e.transition) ek
+      read sk sk e.transition q ∙ ap (λ (k : ℕ). used_flat k k e.transition) ek
 
   pub probabilities_are : front sk e.mu ≡ (bank_of e).probabilities
   probabilities_are = ap (λ (k : ℕ). cut k e.mu) ek

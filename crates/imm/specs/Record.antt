@@ -61,15 +61,22 @@ holding e B = keeping e (table 4 (λ i. with_estimate (model_at e.models i) (pad
 abbrev pub weighing : ImmEstimator → Bank → ImmEstimator
 weighing e B = keeping e e.models (pad_row B.probabilities)
 
--- ---- what each method hands back: 1 where a size does not fit, else that of the bank
+-- ---- what the steps answer: refused where a size does not fit, else the bank after the step
+abbrev pub mixing : ImmEstimator → Answer Bank
+mixing e = where_sized (well_sized e.n e.m e.k) (mix_estimates e.n e.k (transition_of e) (bank_of e))
+
+abbrev pub updating : ImmEstimator → Answer Bank
+updating e = where_sized (well_sized e.n e.m e.k) (update_probabilities e.k (bank_of e))
+
+-- ---- and what each method hands back
 abbrev pub stepped : (ImmEstimator → Bank → ImmEstimator) → ImmEstimator → Answer Bank → Step (Unit {0}) ImmEstimator
 stepped put e a = let w = handed (λ t. t) (put e) e (into a) in record { answer = w.0; left = w.1 }
 
 abbrev pub mix_of : ImmEstimator → Step (Unit {0}) ImmEstimator
-mix_of e = stepped holding e (where_sized (well_sized e.n e.m e.k) (mix_estimates e.n e.k (transition_of e) (bank_of e)))
+mix_of e = stepped holding e (mixing e)
 
 abbrev pub probabilities_of : ImmEstimator → Step (Unit {0}) ImmEstimator
-probabilities_of e = stepped weighing e (where_sized (well_sized e.n e.m e.k) (update_probabilities e.k (bank_of e)))
+probabilities_of e = stepped weighing e (updating e)
 
 abbrev pub fused_of : ImmEstimator → Answer (List Float)
 fused_of e = as_vector (where_sized (well_sized e.n e.m e.k) (fused_estimate e.n e.k (bank_of e)))

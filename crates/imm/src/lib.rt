@@ -3,8 +3,9 @@
 #![tactic(auto)]
 
 ghost use Rattle.std.specs.Prelude.{◌≡◌};
-ghost use Rattle.imm.specs.Record.{states_of, covariances_of, likelihoods_of, with_estimate, with_estimates};
-ghost use Rattle.imm.specs.Record.{new_of, mix_of, probabilities_of, fused_of, probability_of};
+ghost use Rattle.answer.specs.Outcome.{into, handed};
+ghost use Rattle.imm.specs.Record.{states_of, covariances_of, likelihoods_of, with_estimate, with_estimates, holding, weighing};
+ghost use Rattle.imm.specs.Record.{mixing, updating, new_of, mix_of, probabilities_of, fused_of, probability_of};
 
 use answer::{Refusal, Step};
 
@@ -50,11 +51,12 @@ fn covariances(models: [ImmModel; 4]) -> [[[f64; 4]; 4]; 4]
     ensures { result ≡ covariances_of models }
 {
     let [m0, m1, m2, m3] = models;
-    let p0 = kernel::from_flat(&m0.p);
-    let p1 = kernel::from_flat(&m1.p);
-    let p2 = kernel::from_flat(&m2.p);
-    let p3 = kernel::from_flat(&m3.p);
-    [p0, p1, p2, p3]
+    [
+        kernel::from_flat(&m0.p),
+        kernel::from_flat(&m1.p),
+        kernel::from_flat(&m2.p),
+        kernel::from_flat(&m3.p),
+    ]
 }
 
 fn likelihoods(models: [ImmModel; 4]) -> [f64; 4]
@@ -69,11 +71,11 @@ fn likelihoods(models: [ImmModel; 4]) -> [f64; 4]
 fn with_estimate(model: ImmModel, x: [f64; 4], p: &[[f64; 4]; 4]) -> ImmModel
     ensures { result ≡ with_estimate model x p.now }
 {
-    let flat = kernel::to_flat(p);
-    let mut w = model;
-    w.x_hat = x;
-    w.p = flat;
-    w
+    ImmModel {
+        x_hat: x,
+        p: kernel::to_flat(p),
+        ..model
+    }
 }
 
 fn with_estimates<'a>(
@@ -84,15 +86,16 @@ fn with_estimates<'a>(
     ensures { result ≡ with_estimates models x.now p.now }
 {
     let [m0, m1, m2, m3] = models;
-    let w0 = with_estimate(m0, x[0], &p[0]);
-    let w1 = with_estimate(m1, x[1], &p[1]);
-    let w2 = with_estimate(m2, x[2], &p[2]);
-    let w3 = with_estimate(m3, x[3], &p[3]);
-    [w0, w1, w2, w3]
+    [
+        with_estimate(m0, x[0], &p[0]),
+        with_estimate(m1, x[1], &p[1]),
+        with_estimate(m2, x[2], &p[2]),
+        with_estimate(m3, x[3], &p[3]),
+    ]
 }
 
 impl ImmEstimator {
-    // The bank of k models, each with the probability 1 / k; of the matrices the used parts. Refused with 1: a size.
+    // The bank of k models, each with the probability 1 / k; of the matrices the used parts. Refused as a wrong size: a size.
     pub fn new(
         n: usize,
         m: usize,
@@ -117,26 +120,37 @@ impl ImmEstimator {
         })
     }
 
-    // Every model's state and covariance mixed from those of all; mu becomes the predicted probabilities. Refused with 1: a
-    // size of the record.
+    // ---- the steps in place
+
+    fn mix_in(&mut self) -> Result<(), Refusal>
+        ensures { (result, self.new) ≡ handed (λ a. a) (holding self.old) self.old (into (mixing self.old)) }
+    {
+        let (n, _, k) = steps::sized(self.n, self.m, self.k)?;
+        let t = kernel::from_flat(&self.transition);
+        let mut x = states(self.models);
+        let mut p = covariances(self.models);
+        imm_steps::mix(&t, n, k, &mut x, &mut p, &mut self.mu);
+        self.models = with_estimates(self.models, &x, &p);
+        Ok(())
+    }
+
+    fn update_in(&mut self) -> Result<(), Refusal>
+        ensures { (result, self.new) ≡ handed (λ a. a) (weighing self.old) self.old (into (updating self.old)) }
+    {
+        let (_, _, k) = steps::sized(self.n, self.m, self.k)?;
+        imm_steps::update_probabilities(likelihoods(self.models), k, &mut self.mu);
+        Ok(())
+    }
+
+    // ---- the steps by value
+
+    // Every model's state and covariance mixed from those of all; mu becomes the predicted probabilities. Refused as a wrong
+    // size: a size of the record.
     pub fn mix_estimates(self) -> Step<(), ImmEstimator>
         ensures { result ≡ mix_of self }
     {
         let mut left = self;
-        let answer = match steps::sized(self.n, self.m, self.k) {
-            Ok((n, _, k)) => {
-                let t = kernel::from_flat(&self.transition);
-                let models = self.models;
-                let mut x = states(models);
-                let mut p = covariances(models);
-                let mut mu = self.mu;
-                imm_steps::mix(&t, n, k, &mut x, &mut p, &mut mu);
-                left.models = with_estimates(models, &x, &p);
-                left.mu = mu;
-                Ok(())
-            }
-            Err(refusal) => Err(refusal),
-        };
+        let answer = left.mix_in();
         Step { answer, left }
     }
 
@@ -146,16 +160,7 @@ impl ImmEstimator {
         ensures { result ≡ probabilities_of self }
     {
         let mut left = self;
-        let answer = match steps::sized(self.n, self.m, self.k) {
-            Ok((_, _, k)) => {
-                let l = likelihoods(self.models);
-                let mut mu = self.mu;
-                imm_steps::update_probabilities(l, k, &mut mu);
-                left.mu = mu;
-                Ok(())
-            }
-            Err(refusal) => Err(refusal),
-        };
+        let answer = left.update_in();
         Step { answer, left }
     }
 
@@ -168,15 +173,12 @@ impl ImmEstimator {
         Ok(imm_steps::weighted(&x, self.mu, n, k))
     }
 
-    // The probability of model j, from 0. Refused with 1: a size of the record, or there is no such model.
+    // The probability of model j, from 0. Refused as a wrong size: a size of the record, or there is no such model.
     pub fn model_probability(self, j: usize) -> Result<f64, Refusal>
         ensures { result ≡ probability_of self j }
     {
-        let _ = steps::sized(self.n, self.m, self.k)?;
-        if j < self.k {
-            Ok(self.mu[j])
-        } else {
-            Err(Refusal::WrongSize)
-        }
+        steps::sized(self.n, self.m, self.k)?;
+        sizes::fits(j < self.k)?;
+        Ok(self.mu[j])
     }
 }

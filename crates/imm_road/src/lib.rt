@@ -2,7 +2,7 @@
 // where its numbers stand. Each sum starts at +0, as for any size.
 #![tactic(auto)]
 
-ghost use Rattle.std.specs.Prelude.{◌≡◌, [], ◌∷◌};
+ghost use Rattle.std.specs.Prelude.{◌≡◌, [], ◌∷◌, Float};
 ghost use Rattle.road.specs.Road.{matrix_of, estimate_of};
 ghost use Rattle.mixing.specs.Mixing.{mixed_estimate, mix_estimates};
 ghost use Rattle.imm_road.specs.Road.{bank_of, shares_of};
@@ -29,14 +29,15 @@ pub struct Roads {
 fn weights(s: f64, t: f64, mu0: f64, mu1: f64, c: f64) -> Shares
     ensures { (result.a ∷ result.b ∷ []) ≡ shares_of s t mu0 mu1 c }
 {
-    let a = imm_steps::share(mu0, s, c);
-    let b = imm_steps::share(mu1, t, c);
-    Shares { a, b }
+    Shares {
+        a: imm_steps::share(mu0, s, c),
+        b: imm_steps::share(mu1, t, c),
+    }
 }
 
-// The estimates e and f mixed by their weights.
+// The estimates e and f mixed by their weights; the probabilities are not read.
 fn mixed(e: Pair, f: Pair, w: Shares) -> Pair
-    ensures { estimate_of result ≡ mixed_estimate 2 2 (bank_of e f w.a w.b) (w.a ∷ w.b ∷ []) }
+    ensures { (m n : Float) → estimate_of result ≡ mixed_estimate 2 2 (bank_of e f m n) (w.a ∷ w.b ∷ []) }
 {
     let x0 = 0.0 + e.x0 * w.a + f.x0 * w.b;
     let x1 = 0.0 + e.x1 * w.a + f.x1 * w.b;

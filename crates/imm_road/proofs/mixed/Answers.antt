@@ -6,4 +6,4 @@ use Rattle.imm_road.proofs.mixed.Goals as goal
 
 pub returns : goal.returns
 unfolding sum_from vec_sub weighted spread mixed_covariance mixed_estimate
-returns c = refl
+returns c = λ m n. refl

@@ -7,4 +7,4 @@ use Rattle.c_bank.proofs.spread.mixed_row.Goals as goal
 pub returns : goal.returns
 returns c =
     let a = c.args in
-    mixed_is (count a.k) a.p.now a.x.now a.m.now a.w.now a.j a.r (bounds a.k).most c.mixed_row.ensures
+    mixed_is (count a.k) a.p.now a.by.x.now a.by.m.now a.by.w.now a.j a.r (bounds a.k).most c.mixed_row.ensures
