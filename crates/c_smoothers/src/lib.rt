@@ -1,46 +1,41 @@
 // src/estimator/rts_smoother.rs on slices that the caller lends: state size n, room for slots in one slice, and a count that the
 // caller keeps. A pair is a state and its covariance by rows; a slot is the filtered pair and the predicted one. A store and a
-// slot handed out are copies. Refused with 1: a size, a count above room, or a slice of another length. A call tells a number, for C.
+// slot handed out are copies. Refused with 1: a size, a count above room, or a slice of another length.
 #![tactic(auto)]
 
 ghost use Rattle.std.specs.Prelude.{◌≡◌, ◌≤◌, length};
 ghost use Rattle.answer.specs.Answer.{where_sized};
-ghost use Rattle.answer.specs.Told.{given};
+ghost use Rattle.answer.specs.Told.{written};
 ghost use Rattle.sizes.specs.Size.{size_of};
-ghost use Rattle.duty.specs.Passed.{smooth_left};
 ghost use Rattle.smoothing.specs.Demand3.{Demand3};
 ghost use Rattle.c_smoothers.specs.Call.{duty, run};
-ghost use Rattle.c_smoothers.specs.Smoother.{is_pairs, is_square, storable, readable, store_in, slot_in, smooth_in};
+ghost use Rattle.c_smoothers.specs.Smoother.{is_pairs, is_square, storable, store_in, slot_in, smooth_in};
 
-use answer::{Refusal, number_of};
+use answer::Refusal;
 use duty::{Room, pair_length, stride};
-use sizes::Size;
+use sizes::{Size, fits};
 
 // ---- sizes: the state size, or the refusal
 
 // A slice of len numbers is just k pairs.
+#[tactic(auto, unfolding(crate::specs::Smoother::is_pairs))]
 fn pairs(n: usize, k: usize, len: usize) -> Result<Size, Refusal>
     requires { k ≤ 2 }
     ensures { result ≡ where_sized (is_pairs n k len) (size_of n) }
 {
     let size = Size::try_from(n)?;
-    if len == k * pair_length(size) {
-        Ok(size)
-    } else {
-        Err(Refusal::WrongSize)
-    }
+    fits(len == k * pair_length(size))?;
+    Ok(size)
 }
 
 // A slice of len numbers is just n rows of n.
+#[tactic(auto, unfolding(crate::specs::Smoother::is_square))]
 fn square(n: usize, len: usize) -> Result<Size, Refusal>
     ensures { result ≡ where_sized (is_square n len) (size_of n) }
 {
     let size = Size::try_from(n)?;
-    if len == n * n {
-        Ok(size)
-    } else {
-        Err(Refusal::WrongSize)
-    }
+    fits(len == n * n)?;
+    Ok(size)
 }
 
 // A pair, another pair, and the slots.
@@ -52,40 +47,7 @@ fn storable(room: Room, slots: usize, filtered: usize, predicted: usize) -> Resu
     room.buffered(slots)
 }
 
-// A slot, and the slots.
-fn readable(room: Room, slots: usize, slot: usize) -> Result<Size, Refusal>
-    ensures { result ≡ where_sized (readable room.n room.room room.count slots slot) (size_of room.n) }
-{
-    pairs(room.n, 2, slot)?;
-    room.buffered(slots)
-}
-
 // ---- the calls
-
-fn store(
-    n: usize,
-    room: usize,
-    count: &mut usize,
-    slots: &mut [f64],
-    filtered: &[f64],
-    predicted: &[f64],
-) -> Result<(), Refusal>
-    ensures { (result, (count.new, slots.new)) ≡ smooth_left (λ w. w) (count.old, slots.old)
-        (store_in n room count.old slots.old filtered.now predicted.now) }
-{
-    let c = *count;
-    let lent = Room { n, room, count: c };
-    let size = storable(lent, slots.len(), filtered.len(), predicted.len())?;
-    if c < room {
-        let at = c * stride(size);
-        layout::put_slice(slots, at, filtered);
-        layout::put_slice(slots, at + filtered.len(), predicted);
-        *count = c + 1;
-        Ok(())
-    } else {
-        Err(Refusal::BufferFull)
-    }
-}
 
 // One slot more, after those stored, and the count one more. Refused with 5: the count is the room.
 pub fn rts_smoother_store_forward(
@@ -95,26 +57,25 @@ pub fn rts_smoother_store_forward(
     slots: &mut [f64],
     filtered: &[f64],
     predicted: &[f64],
-) -> u8
-    ensures { (result, (count.new, slots.new)) ≡ given (count.old, slots.old)
+) -> Result<(), Refusal>
+    ensures { (result, (count.new, slots.new)) ≡ written (count.old, slots.old)
         (store_in n room count.old slots.old filtered.now predicted.now) }
 {
-    number_of(store(n, room, count, slots, filtered, predicted))
-}
-
-fn get_state(lent: Room, slots: &[f64], k: usize, out: &mut [f64]) -> Result<(), Refusal>
-    ensures { (result, out.new) ≡ smooth_left (λ l. l) out.old (slot_in lent.n lent.room lent.count slots.now k (length out.old)) }
-{
-    let size = readable(lent, slots.len(), out.len())?;
-    if k < lent.count {
-        let slot = stride(size);
-        let from = k * slot;
-        let end = from + slot;
-        layout::put_slice(out, 0, &slots[from..end]);
-        Ok(())
-    } else {
-        Err(Refusal::IndexOutOfRange)
+    let stored = *count;
+    let lent = Room {
+        n,
+        room,
+        count: stored,
+    };
+    let size = storable(lent, slots.len(), filtered.len(), predicted.len())?;
+    if room <= stored {
+        return Err(Refusal::BufferFull);
     }
+    let at = stored * stride(size);
+    layout::put_slice(slots, at, filtered);
+    layout::put_slice(slots, at + filtered.len(), predicted);
+    *count = stored + 1;
+    Ok(())
 }
 
 // A copy of slot k. Refused with 6: k is not below the count.
@@ -125,19 +86,12 @@ pub fn rts_smoother_get_state(
     slots: &[f64],
     k: usize,
     out: &mut [f64],
-) -> u8
-    ensures { (result, out.new) ≡ given out.old (slot_in n room count slots.now k (length out.old)) }
+) -> Result<(), Refusal>
+    ensures { (result, out.new) ≡ written out.old (slot_in n room count slots.now k (length out.old)) }
 {
-    number_of(get_state(Room { n, room, count }, slots, k, out))
-}
-
-fn smooth(lent: Room, slots: &[f64], transition: &[f64], output: &mut [f64]) -> Result<(), Refusal>
-    ensures { (result, output.new) ≡ smooth_left (λ l. l) output.old
-        (smooth_in lent.n lent.room lent.count slots.now transition.now (length output.old)) }
-{
-    let size = square(lent.n, transition.len())?;
-    let f = layout::matrix_at(transition, 0, size, size);
-    rts_pass::smooth(slots, lent, f, output)
+    pairs(n, 2, out.len())?;
+    layout::put_slice(out, 0, Room { n, room, count }.slot(slots, k)?);
+    Ok(())
 }
 
 // The smoothed pairs of the stored slots into output, and +0 past them. Refused with 2: no slot; with 3: inversion rejects the
@@ -149,11 +103,13 @@ pub fn rts_smoother_smooth(
     slots: &[f64],
     transition: &[f64],
     output: &mut [f64],
-) -> u8
-    ensures { (result, output.new) ≡ given output.old
+) -> Result<(), Refusal>
+    ensures { (result, output.new) ≡ written output.old
         (smooth_in n room count slots.now transition.now (length output.old)) }
 {
-    number_of(smooth(Room { n, room, count }, slots, transition, output))
+    let size = square(n, transition.len())?;
+    let f = layout::matrix_at(transition, 0, size, size);
+    rts_pass::smooth(slots, Room { n, room, count }, f, output)
 }
 
 // A promise: nothing is done, and the crate is not proved without demand 3 of `rts_smoother_smooth`, which has a name for C.

@@ -1,16 +1,12 @@
 -- Laws of the sizes: what a test that was passed says, and that slots and buffers are small. Assumes nothing.
-use mathlib.Core.Path.{◌≡◌, refl, sym, ap, ◌∙◌, subst⁻¹}
+use mathlib.Core.Path.{◌≡◌, refl, ap, ◌∙◌, subst⁻¹}
 use mathlib.Core.Bool.{Bool, true, false, ◌&&◌}
 use Prim.Native.Nat.{ℕ, ◌+◌, ◌*◌, ◌≤◌, ◌<◌}
 use native.Mathlib.Nat.{mul-le-mul_left, mul-le-mul_right}
 use native.Mathlib.Omega.{arith}
-use lib.Dec.{leb, eqb}
+use lib.Dec.{leb}
 use borrow.Author.Tests.{leb-true, eqb-true}
-use Rattle.std.specs.Prelude.{Ok, Err, IsErrAnd}
-use Rattle.std.proofs.lemmas.Bool.Decides.{nat_tests}
-use Rattle.std.proofs.lemmas.Result.{err_from_is_err_and}
-use Rattle.answer.specs.declared.Refusal.{Refusal}
-use Rattle.answer.specs.declared.Refusal.TheVariants.{WrongSize}
+use Rattle.std.specs.Prelude.{Ok}
 use Rattle.answer.specs.Answer.{Answer, where_sized}
 use Rattle.answer.proofs.Choice.{and_left, and_right}
 use Rattle.sizes.specs.declared.Size.{Size}
@@ -74,38 +70,6 @@ smoothable_of m o n T c e = record { buffer = buffered_of m n T c (and_left _ _ 
 pub smoothable-given : (m o n T c : ℕ) {s : Size} {r : Answer Size} → r ≡ where_sized (smoothable m o n T c) (size_of n) → r ≡ Ok s → Given (smoothable m o n T c) n s
 smoothable-given m o n T c p q = given (smoothable m o n T c) n (λ e. (smoothable_of m o n T c e).buffer.sizes.size) p q
 
--- where no size was given, the test failed
-pub unsized : {A : Type 0} (t : Bool) (x : A) {o : Answer A} {k : Refusal} → o ≡ where_sized t x → o ≡ Err k → (t ≡ false) × (k ≡ WrongSize)
-unsized true x p q = (cc, cc)
-unsized false x p q = (cc, cc)
-
--- ---- a test u after a test t, by which o gave x
-module _ {A : Type 0} (x : A) {o : Answer A} where
-  still : (t u : Bool) {k : Refusal} → o ≡ where_sized t x → o ≡ Err k → Err k ≡ where_sized (t && u) x
-  still true u p q = cc
-  still false u p q = cc
-
-  -- r is what `?` returns
-  pub refused-before : (t u : Bool) {k : Refusal} {r : Answer A} → IsErrAnd r (λ e. e ≡ k) → o ≡ where_sized t x → o ≡ Err k → r ≡ where_sized (t && u) x
-  refused-before t u {r = r} e p q = let z = err_from_is_err_and r e in z.1 ∙ ap Err z.2 ∙ still t u p q
-
-  pub passed_after : (t u : Bool) {y : A} → o ≡ where_sized t x → o ≡ Ok y → u ≡ true → Ok y ≡ where_sized (t && u) x
-  passed_after true true p q e = cc
-  passed_after true false p q e = cc
-  passed_after false u p q e = cc
-
-  pub failed_after : (t u : Bool) {y : A} → o ≡ where_sized t x → o ≡ Ok y → u ≡ false → Err WrongSize ≡ where_sized (t && u) x
-  failed_after true true p q e = cc
-  failed_after true false p q e = cc
-  failed_after false u p q e = cc
-
--- T parts of s numbers, which the code has as r, take m numbers, or another number
-pub just_parts : (m T : ℕ) {r s : ℕ} → r ≡ s → m ≡ T * r → eqb m (T * s) ≡ true
-just_parts m T e h = let h = h ∙ ap (λ (r : ℕ). T * r) e in grind (arith, nat_tests)
-
-pub other-parts : (m T : ℕ) {r s : ℕ} → r ≡ s → (m ≡ T * r → ⊥) → eqb m (T * s) ≡ false
-other-parts m T {s = s} e h = let h = λ (w : m ≡ T * s). h (w ∙ sym (ap (λ (r : ℕ). T * r) e)) in grind (arith, nat_tests)
-
 -- ---- slots and buffers are small
 pub square-small : {n : ℕ} → n ≤ 4 → n * n ≤ 16
 square-small {n} h = omega (arith, mul-le-mul_left n h)
@@ -129,3 +93,34 @@ passable {m} {o} {n} {T} {c} t h e =
     let f = t.buffer.sizes in
     subst⁻¹ (λ (s : ℕ). (1 ≤ c) × (c ≤ 64) × (c * stride s ≤ m) × (c * pair_length s ≤ 1280)) e
     (h, omega (arith, f), omega (arith, t.buffer.whole, mul-le-mul_right (stride n) f.within), output-small f.bounds.most (omega (arith, f)))
+
+-- ---- parts as long as the code has them, r, by the size that a test gave
+pub record Long (l T r m : ℕ) : Type 0 where
+  pub is : r ≡ l
+  pub small : T * r ≤ m
+
+-- slots
+pub slots_given : (n T c : ℕ) {s : Size} {o : Answer Size} {r : ℕ} → o ≡ where_sized (counted n T c) (size_of n) → o ≡ Ok s → r ≡ stride (count s) → Long (stride n) T r 2560
+slots_given n T c {r = r} p q e =
+    let g = counted-given n T c p q in
+    let t = counted_of n T c g.passed in
+    let is : r ≡ stride n = e ∙ ap stride g.size in
+    record { is = is; small = rw is (buffer-small t.bounds.most t.few) }
+
+-- pairs
+pub pairs_given : (m n T c : ℕ) {s : Size} {o : Answer Size} {r : ℕ} → o ≡ where_sized (buffered m n T c) (size_of n) → o ≡ Ok s → r ≡ pair_length (count s) → Long (pair_length n) T r 1280
+pairs_given m n T c {r = r} p q e =
+    let g = buffered-given m n T c p q in
+    let t = (buffered_of m n T c g.passed).sizes in
+    let is : r ≡ pair_length n = e ∙ ap pair_length g.size in
+    record { is = is; small = rw is (output-small t.bounds.most t.few) }
+
+-- slot k of T lies within the buffer
+pub slot_ends : (m n T c : ℕ) {k : ℕ} → buffered m n T c ≡ true → k < T → k * stride n + stride n ≤ m
+slot_ends m n T c {k} e h = omega (arith, ends-within {k = k} {n = T} (stride n) h, (buffered_of m n T c e).whole)
+
+-- one that is stored, by the size that the test gave
+pub slot_within : (m n T c : ℕ) {s : Size} {o : Answer Size} {k : ℕ} → o ≡ where_sized (buffered m n T c) (size_of n) → o ≡ Ok s → k < c → k * stride (count s) + stride (count s) ≤ m
+slot_within m n T c p q h =
+    let g = buffered-given m n T c p q in
+    rw g.size (slot_ends m n T c g.passed (omega (arith, h, (buffered_of m n T c g.passed).sizes.within)))

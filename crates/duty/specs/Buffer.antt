@@ -1,6 +1,8 @@
 -- How slots and smoothed pairs lie in lent buffers, one number after another, for state size n. Definitions only.
-use Rattle.std.specs.Prelude.{ℕ, ◌+◌, ◌*◌, List, ◌++◌, map, Bool, ◌&&◌, leb, eqb, Float}
+use Rattle.std.specs.Prelude.{ℕ, ◌+◌, ◌*◌, List, ◌++◌, map, Bool, ◌&&◌, leb, eqb, length, take, drop, Float}
 use Rattle.scalar.specs.Number.{+0}
+use Rattle.answer.specs.declared.Refusal.TheVariants.{IndexOutOfRange}
+use Rattle.answer.specs.Answer.{Answer, refused_if, if_sized}
 use Rattle.answer.specs.Table.{table, pad_to}
 use Rattle.algebra.specs.Matrix.{Matrix}
 use Rattle.sizes.specs.Size.{sized}
@@ -57,3 +59,13 @@ buffered m n T c = counted n T c && eqb m (T * stride n)
 -- right sizes, and an output of o numbers that is just T pairs long
 unfoldable pub smoothable : ℕ → ℕ → ℕ → ℕ → ℕ → Bool
 smoothable m o n T c = buffered m n T c && eqb o (T * pair_length n)
+
+-- ---- slot k, where it is stored
+
+-- its numbers: refused with 1 for the sizes, with 6 where k is not below c
+abbrev pub stored_slot : ℕ → ℕ → ℕ → List Float → ℕ → Answer (List Float)
+stored_slot n T c b k = if_sized (buffered (length b) n T c) (refused_if (leb c k) IndexOutOfRange (take (stride n) (drop (k * stride n) b)))
+
+-- where they begin, for a buffer that begins at p, a block and a number of bytes
+abbrev pub slot_place : ℕ → ℕ → ℕ × ℕ → ℕ × ℕ
+slot_place n k p = (p.0, k * stride n * 8 + p.1)

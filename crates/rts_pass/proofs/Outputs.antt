@@ -1,6 +1,6 @@
 -- The output of smoothing: the pairs in front of +0, as many numbers as it has room for; and the ways out of `smooth`. Assumes nothing.
 use mathlib.Core.Path.{◌≡◌, refl, sym, ap, ap₂, ◌∙◌, subst}
-use mathlib.Core.Bool.{Bool, true}
+use mathlib.Core.Bool.{Bool}
 use mathlib.Core.List.{List, [], ◌∷◌, ◌++◌, map}
 use Prim.Native.Nat.{ℕ, ◌+◌, ◌*◌, ◌≤◌, suc}
 use native.Mathlib.Nat.{suc-mul, mul-le-mul_right}
@@ -11,9 +11,9 @@ use lib.Ieee.{Float}
 use Rattle.std.specs.Prelude.{Ok, Err, IsErrAnd}
 use Rattle.answer.specs.declared.Refusal.{Refusal}
 use Rattle.answer.specs.declared.Refusal.TheVariants.{InsufficientData}
-use Rattle.small_inverse.proofs.Exits.{exit}
+use Rattle.answer.proofs.Exits.{exit}
 use Rattle.sizes.specs.declared.Size.{Size}
-use Rattle.sizes.specs.Size.{size_of}
+use Rattle.sizes.specs.Size.{count, size_of}
 use Rattle.scalar.specs.Number.{+0}
 use Rattle.answer.specs.Answer.{Answer, mapped, where_sized, if_sized}
 use Rattle.answer.specs.Table.{table, pad_to}
@@ -21,16 +21,15 @@ use Rattle.answer.proofs.Tables.{length-table, table_ext, length-pad_to, pad_to-
 use Rattle.algebra.specs.Matrix.{Matrix}
 use Rattle.algebra.specs.Array.{used}
 use Rattle.filtering.specs.Filter.{Estimate}
-use Rattle.layout.specs.Layout.{joined, placed, put_at, pair_length, stride}
-use Rattle.layout.proofs.Places.{placed-whole, placed-before, placed-after, length-placed}
-use Rattle.layout.proofs.Calls.{slice-put}
+use Rattle.layout.specs.Layout.{joined, placed, pair_length, stride}
+use Rattle.layout.proofs.Places.{placed-before, placed-after, length-placed}
 use Rattle.smoothing.specs.Backward.{pass}
 use Rattle.smoothing.specs.Smoother.{slot_gain, smoothed_pair, smooth_slots, smooth}
 use Rattle.smoothing.proofs.Backward.{Each, each-table, pass-each, pass-count}
 use Rattle.duty.specs.Buffer.{pair_at, slot_from, slot_at, slots_of, duty_of, pair_numbers, output_of}
 use Rattle.duty.specs.Passed.{Passed, smooth_left, smooth_of}
 use Rattle.duty.specs.Buffer.{smoothable}
-use Rattle.duty.proofs.Sizes.{smoothable_of, smoothable-given, unsized, output-small}
+use Rattle.duty.proofs.Sizes.{Given, Smoothable, smoothable_of, smoothable-given, output-small, passable}
 use Rattle.duty.proofs.Pairs.{Paired, length-pair, paired_at, pair-back}
 use Rattle.duty.proofs.Passes.{paired-smoothed, told-done, told-refused}
 
@@ -93,50 +92,55 @@ module _ (n : ℕ) (F : Matrix) (b : List Float) (c : ℕ) (r : List Estimate) (
   smoothed-length {T} h =
       omega (arith, length_pairs n r smoothed-pairs, ap (λ (k : ℕ). k * pair_length n) smoothed-count, mul-le-mul_right (pair_length n) h)
 
--- an output of right sizes is no longer than the buffer of the largest size
-pub shorter : (m o n T c : ℕ) {s : Size} {a : Answer Size} {l : ℕ} → a ≡ where_sized (smoothable m o n T c) (size_of n) → a ≡ Ok s → l ≡ 1280 → o ≤ l
-shorter m o n T c p q e =
-    let t = smoothable_of m o n T c (smoothable-given m o n T c p q).passed in
-    omega (arith, t.output, output-small t.buffer.sizes.bounds.most t.buffer.sizes.few)
-
--- ---- the ways out of `smooth`
-module _ (n T c : ℕ) (b : List Float) (f : List (List Float)) (o : List Float) where
+-- ---- the ways out of `smooth`: s is the size that the test gave
+module _ (n T c : ℕ) (b : List Float) (f : List (List Float)) (o : List Float) {s : Size} {q : Answer Size} (p : q ≡ where_sized (smoothable (length b) (length o) n T c) (size_of n))
+    (g : q ≡ Ok s) where
   abbrev result_at : ℕ → Answer (List Estimate)
   result_at m = smooth_slots m (used m m f) (slots_of m b c)
 
-  abbrev fits : Bool
-  fits = smoothable (length b) (length o) n T c
+  sizes : Given (smoothable (length b) (length o) n T c) n s
+  sizes = smoothable-given (length b) (length o) n T c p g
 
-  -- t is the test of the sizes, and a what smoothing gives
-  smooth-way : {t : Bool} {a : Answer (List Estimate)} → fits ≡ t → result_at n ≡ a → smooth_left (λ l. l) o (if_sized t (mapped (output_of n T) a)) ≡ smooth_of n T c b f o
+  right : Smoothable (length b) (length o) n T c
+  right = smoothable_of (length b) (length o) n T c sizes.passed
+
+  small : T * pair_length n ≤ 1280
+  small = let t = right.buffer.sizes in output-small t.bounds.most t.few
+
+  -- the output is no longer than the buffer of the largest size
+  pub shorter : {l : ℕ} → l ≡ 1280 → length o ≤ l
+  shorter e = omega (arith, right.output, small)
+
+  pub as_long : (l : List Float) → length l ≡ 1280 → length o ≡ length (take (length o) l)
+  as_long l e = sym (length-take-le (length o) l (shorter e))
+
+  -- what the pass asks for
+  pub asked : 1 ≤ c → (1 ≤ c) × (c ≤ 64) × (c * stride (count s) ≤ length b) × (c * pair_length (count s) ≤ 1280)
+  asked h = passable right h sizes.size
+
+  -- a is what smoothing gives
+  smooth-way : {a : Answer (List Estimate)} → result_at n ≡ a → smooth_left (λ l. l) o (mapped (output_of n T) a) ≡ smooth_of n T c b f o
   unfolding smooth duty_of
-  smooth-way p q = ap₂ (λ (t : Bool) (a : Answer (List Estimate)). smooth_left (λ l. l) o (if_sized t (mapped (output_of n T) a))) (sym p) (sym q)
+  smooth-way e =
+      ap₂ (λ (t : Bool) (a : Answer (List Estimate)). smooth_left (λ l. l) o (if_sized t (mapped (output_of n T) a))) (sym sizes.passed) (sym e)
 
-  -- a is what the test gave, and r what is returned
-  pub smooth-unsized : (r : Answer Unit) {a : Answer Size} {k : Refusal} → IsErrAnd r (λ e. e ≡ k) → a ≡ where_sized fits (size_of n) → a ≡ Err k
-      → (r, o) ≡ smooth_of n T c b f o
-  smooth-unsized r e p d = let u = unsized fits (size_of n) p d in (λ i. ((exit e ∙ ap Err u.1) i, o)) ∙ smooth-way u.0 refl
-
-  pub smooth-none : fits ≡ true → c ≡ 0 → (Err InsufficientData, o) ≡ smooth_of n T c b f o
+  pub smooth-none : c ≡ 0 → (Err InsufficientData, o) ≡ smooth_of n T c b f o
   unfolding smooth_slots pass
-  smooth-none h e = smooth-way h (ap (λ (k : ℕ). smooth_slots n (used n n f) (slots_of n b k)) e)
+  smooth-none e = smooth-way (ap (λ (k : ℕ). smooth_slots n (used n n f) (slots_of n b k)) e)
 
-  -- the pass over a buffer of N +0 was refused, or answered: m is the size as the code has it, s what is told, and l what the buffer holds
-  module _ (N : ℕ) {m : ℕ} {s : Answer Unit} {l : List Float} (em : m ≡ n) (h : fits ≡ true) (e : Passed (result_at m) (replicate N +0) l s) where
-    here : Passed (result_at n) (replicate N +0) l s
-    here = subst (λ (k : ℕ). Passed (result_at k) (replicate N +0) l s) em e
+  -- the pass over a buffer of +0 was refused, or answered: t is what is told, and l what the buffer holds
+  module _ {t : Answer Unit} {l : List Float} (e : Passed (result_at (count s)) (replicate 1280 +0) l t) where
+    here : Passed (result_at n) (replicate 1280 +0) l t
+    here = subst (λ (k : ℕ). Passed (result_at k) (replicate 1280 +0) l t) sizes.size e
 
-    pub smooth-stopped : (r : Answer Unit) {k : Refusal} → IsErrAnd r (λ e. e ≡ k) → s ≡ Err k → (r, o) ≡ smooth_of n T c b f o
-    smooth-stopped r e d = (λ i. (exit e i, o)) ∙ smooth-way h (told-refused (result_at n) here.told d)
+    -- r is what is returned
+    pub smooth-stopped : (r : Answer Unit) {k : Refusal} → IsErrAnd r (λ e. e ≡ k) → t ≡ Err k → (r, o) ≡ smooth_of n T c b f o
+    smooth-stopped r e d = (λ i. (exit e i, o)) ∙ smooth-way (told-refused (result_at n) here.told d)
 
-    pub smooth-done : {z : List Float} {u : Unit} → T * pair_length n ≤ N → s ≡ Ok u → length o ≤ length l → z ≡ put_at 0 (take (length o) l) o
-        → (Ok tt, z) ≡ smooth_of n T c b f o
-    smooth-done {z} small d room q =
+    pub smooth-done : {z : List Float} {u : Unit} → t ≡ Ok u → z ≡ take (length o) l → (Ok tt, z) ≡ smooth_of n T c b f o
+    smooth-done {z} d q =
         let (r, p) = told-done (result_at n) here.told d in
-        let t = smoothable_of (length b) (length o) n T c h in
-        let long = length-take-le (length o) l room in
-        let copied : z ≡ take (length o) l = slice-put 0 o (take (length o) l) (omega arith) q ∙ placed-whole (take (length o) l) o long in
         let pairs : take (length o) l ≡ output_of n T r =
-        ap₂ (λ (k : ℕ) (l : List Float). take k l) t.output (here.pairs r p)
-        ∙ output_is n T N r (smoothed-length n (used n n f) b c r p t.buffer.sizes.within) small in
-        (λ i. (Ok tt, (copied ∙ pairs) i)) ∙ smooth-way h p
+        ap₂ (λ (k : ℕ) (l : List Float). take k l) right.output (here.pairs r p)
+        ∙ output_is n T 1280 r (smoothed-length n (used n n f) b c r p right.buffer.sizes.within) small in
+        (λ i. (Ok tt, (q ∙ pairs) i)) ∙ smooth-way p

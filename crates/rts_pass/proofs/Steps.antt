@@ -8,7 +8,7 @@ use lib.Ieee.{Float}
 use Rattle.std.specs.Prelude.{Ok, Err, IsErrAnd}
 use Rattle.answer.specs.declared.Refusal.{Refusal}
 use Rattle.answer.specs.Answer.{Answer}
-use Rattle.small_inverse.proofs.Exits.{exit}
+use Rattle.answer.proofs.Exits.{exit}
 use Rattle.algebra.specs.Matrix.{Matrix, sub, vec_sub}
 use Rattle.algebra.specs.Array.{pad_row, pad}
 use Rattle.algebra.specs.Inverse.{inv}

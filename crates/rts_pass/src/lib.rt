@@ -73,6 +73,7 @@ fn smooth_slots<'a>(
     let last = stored - 1;
     let mut x = layout::vector_at(slots, last * slot, n);
     let mut p = layout::matrix_at(slots, last * slot + usize::from(n), n, n);
+    // The index is a place among the slots and among the pairs.
     for k in (0..last).rev() {
         layout::put_pair(out, (k + 1) * pair, x, &p, n);
         step(slots, k * slot, n, f, &mut x, &mut p)?;
@@ -102,7 +103,7 @@ pub fn smooth(
     let mut pairs = [0.0; 1280];
     smooth_slots(slots, size, room.count, &transition, &mut pairs[..])?;
     let end = output.len();
-    layout::put_slice(output, 0, &pairs[..end]);
+    output.copy_from_slice(&pairs[..end]);
     Ok(())
 }
 

@@ -67,6 +67,7 @@ pub(crate) fn smooth_slots_two<'a>(
     };
     let last = stored - 1;
     let mut e = pair_at(slots, last * 12);
+    // The index is a place among the slots and among the pairs.
     for k in (0..last).rev() {
         put_two(out, (k + 1) * 6, e);
         e = smooth_two(pair_at(slots, k * 12), pair_at(slots, k * 12 + 6), t, e)?;

@@ -5,7 +5,7 @@ use Rattle.answer.specs.declared.Refusal.{Refusal}
 use Rattle.answer.specs.Answer.{Answer, mapped}
 use Rattle.algebra.specs.Matrix.{Matrix}
 use Rattle.algebra.specs.Inverse.{inv}
-use Rattle.small_inverse.proofs.Exits.{exit}
+use Rattle.answer.proofs.Exits.{exit}
 use Rattle.filtering.specs.Filter.{Estimate, gain}
 use Rattle.road.specs.declared.Two.{Two}
 use Rattle.road.specs.declared.Pair.{Pair}

@@ -1,15 +1,14 @@
 -- Laws of the smoother's records: what a slot's record holds, and the ways out of its methods. Assumes nothing.
-use mathlib.Core.Path.{◌≡◌, refl, sym, ap, ap₂, ◌∙◌, subst}
-use mathlib.Core.Bool.{Bool, true, false}
+use mathlib.Core.Path.{◌≡◌, sym, ap, ap₂, ◌∙◌, subst}
+use mathlib.Core.Bool.{Bool, true}
 use mathlib.Core.List.{List, ◌++◌}
 use Prim.Native.Nat.{ℕ, ◌+◌, ◌*◌, ◌≤◌, ◌<◌}
 use native.Mathlib.Omega.{arith}
-use lib.Dec.{leb}
 use lib.ListN.{length}
 use lib.Ieee.{Float}
-use borrow.Author.Tests.{eqb-true, leb-false, lt-leb}
-use Rattle.std.specs.Prelude.{Ok, is_ok}
-use Rattle.answer.specs.declared.Refusal.TheVariants.{BufferFull, IndexOutOfRange}
+use borrow.Author.Tests.{eqb-true, lt-leb}
+use Rattle.std.specs.Prelude.{Ok}
+use Rattle.answer.specs.declared.Refusal.TheVariants.{BufferFull}
 use Rattle.answer.specs.Answer.{Answer, mapped, where_sized, if_sized, refused_if}
 use Rattle.answer.specs.Outcome.{into, standing}
 use Rattle.answer.proofs.Choice.{and_left, and_right}
@@ -18,7 +17,6 @@ use Rattle.algebra.specs.Array.{cut, used, pad_row, pad, rows_of_flat, flat_of_r
 use Rattle.algebra.proofs.Arrays.{length_cut, shape-used, used-rows_of_flat}
 use Rattle.sizes.specs.declared.Size.{Size}
 use Rattle.sizes.specs.Size.{count, size_of, sized}
-use Rattle.sizes.proofs.Sizes.{is_count}
 use Rattle.matrix.proofs.Results.{value_answered}
 use Rattle.filtering.specs.Filter.{estimate}
 use Rattle.layout.specs.Layout.{placed, pair_length, stride}
@@ -29,7 +27,7 @@ use Rattle.duty.proofs.Sizes.{Given, given, Buffered, buffered_of, buffer-small}
 use Rattle.duty.proofs.Pairs.{length-pair}
 use Rattle.rts_smoother.specs.declared.FilteredState.{FilteredState}
 use Rattle.rts_smoother.specs.declared.RtsSmoother.{RtsSmoother}
-use Rattle.rts_smoother.specs.Record.{slot_of, slot_of_rows, record_of, state_from, smoother, storable, store_in, get_state_refusal}
+use Rattle.rts_smoother.specs.Record.{slot_of, slot_of_rows, record_of, state_from, smoother, storable, store_in}
 
 -- ---- what a test that was passed says: the buffer's sizes are right, and a slot has the smoother's
 pub record Storable (m n T c size : ℕ) : Type 0 where
@@ -78,7 +76,6 @@ module _ (m : RtsSmoother) (b : List Float) (s : FilteredState) where
   -- where it is stored the slot lies within the buffer: r is the stride as the code has it
   pub record Fitting (r : ℕ) : Type 0 where
     pub is : r ≡ stride m.n
-    pub same : m.n ≡ s.n
     pub ends : m.count * r + stride s.n ≤ length b
     pub small : m.count * r ≤ 2560
 
@@ -87,21 +84,22 @@ module _ (m : RtsSmoother) (b : List Float) (s : FilteredState) where
     sizes : Given fits m.n z
     sizes = given fits m.n (λ w. (storable_of (length b) m.n m.room m.count s.n w).buffer.sizes.size) p d
 
+    right : Storable (length b) m.n m.room m.count s.n
+    right = storable_of (length b) m.n m.room m.count s.n sizes.passed
+
     pub of_slot : count z ≡ s.n
-    of_slot = sizes.size ∙ (storable_of (length b) m.n m.room m.count s.n sizes.passed).same
+    of_slot = sizes.size ∙ right.same
 
     pub fitting : Fitting r
     fitting =
-        let t = storable_of (length b) m.n m.room m.count s.n sizes.passed in
-        let f = t.buffer.sizes in
+        let f = right.buffer.sizes in
         let w = ends-within {k = m.count} {n = m.room} (stride m.n) q in
         let z = buffer-small f.bounds.most f.few in
         let r_is : r ≡ stride m.n = e ∙ ap stride sizes.size in
         let here : m.count * r ≡ m.count * stride m.n = ap (λ (k : ℕ). m.count * k) r_is in
         record {
           is = r_is;
-          same = t.same;
-          ends = subst (λ (k : ℕ). m.count * r + stride k ≤ length b) t.same (omega (arith, w, t.buffer.whole, here));
+          ends = subst (λ (k : ℕ). m.count * r + stride k ≤ length b) right.same (omega (arith, w, right.buffer.whole, here));
           small = omega (arith, w, z, here);
         }
 
@@ -110,33 +108,3 @@ module _ (m : RtsSmoother) (b : List Float) (s : FilteredState) where
     store_done g =
         (λ i. (Ok (smoother m.n m.room (m.count + 1)), (g ∙ ap (λ (r : ℕ). placed (m.count * r) (slot_numbers (slot_of s)) b) fitting.is) i))
         ∙ ap₂ (λ (t u : Bool). left (if_sized t (refused_if u BufferFull after))) (sym sizes.passed) (sym (lt-leb m.room m.count q))
-
--- ---- a slot that is handed out
-module _ (m : RtsSmoother) (b : List Float) (k : ℕ) where
-  -- it lies within the buffer: r is the stride as the code has it
-  pub record Within (r : ℕ) : Type 0 where
-    pub allowed : is_ok (get_state_refusal m b k) ≡ true
-    pub is : r ≡ stride m.n
-    pub ends : k * r + r ≤ length b
-    pub small : k * r + r ≤ 2560
-
-  -- what was asked before it is handed out
-  asked : (t u : Bool) (s : Size) {z : Size} {o : Answer Size} → o ≡ if_sized t (refused_if u IndexOutOfRange s) → o ≡ Ok z → (t ≡ true) × (u ≡ false) × (z ≡ s)
-  asked true true s p q = cc
-  asked true false s p q = (refl, refl, cc)
-  asked false u s p q = cc
-
-  pub within : (z : Size) {o : Answer Size} {r : ℕ} → o ≡ if_sized (buffered (length b) m.n m.room m.count) (refused_if (leb m.count k) IndexOutOfRange (size_of m.n)) → o ≡ Ok z
-      → r ≡ stride (count z) → Within r
-  within z {r = r} p q e =
-      let (t, u, y) = asked (buffered (length b) m.n m.room m.count) (leb m.count k) (size_of m.n) p q in
-      let s = buffered_of (length b) m.n m.room m.count t in
-      let r_is : r ≡ stride m.n = e ∙ ap stride (is_count s.sizes.size y) in
-      let w = ends-within {k = k} {n = m.room} (stride m.n) (omega (arith, leb-false m.count k u, s.sizes.within)) in
-      let here : k * r ≡ k * stride m.n = ap (λ (j : ℕ). k * j) r_is in
-      record {
-        allowed = ap₂ (λ (t u : Bool). is_ok (if_sized t (refused_if u IndexOutOfRange tt))) t u;
-        is = r_is;
-        ends = omega (arith, w, s.whole, here);
-        small = omega (arith, w, here, buffer-small s.sizes.bounds.most s.sizes.few);
-      }

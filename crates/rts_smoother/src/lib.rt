@@ -3,19 +3,18 @@
 // records and the methods; the pass itself is crates/rts_pass.
 #![tactic(auto)]
 
-ghost use Rattle.std.specs.Prelude.{◌≡◌, ◌+◌, ◌≤◌, leb, length};
-ghost use Rattle.answer.specs.Answer.{where_sized, if_sized, refused_if};
-ghost use Rattle.answer.specs.declared.Refusal.TheVariants.{IndexOutOfRange};
+ghost use Rattle.std.specs.Prelude.{◌≡◌, ◌+◌, ◌≤◌, length};
+ghost use Rattle.answer.specs.Answer.{where_sized};
 ghost use Rattle.sizes.specs.Size.{count, size_of};
 ghost use Rattle.layout.specs.Layout.{placed, stride as stride_of};
-ghost use Rattle.duty.specs.Buffer.{slot_numbers, buffered};
+ghost use Rattle.duty.specs.Buffer.{slot_numbers};
 ghost use Rattle.smoothing.specs.Demand3.{Demand3};
 ghost use Rattle.rts_smoother.specs.Call.{duty, run, StoredDuty};
 ghost use Rattle.rts_smoother.specs.Record.{slot_of, storable, state_from, room_of, stored, new_of, emptied, reset_of, len_of, is_empty_of, store_in, store_of, get_state_refusal, get_state, place_of, smooth_with};
 
 use answer::{Refusal, Step};
 use duty::{Room, pair_length, stride};
-use sizes::Size;
+use sizes::{Size, fits};
 
 // One slot: the filtered state x and covariance p, n by n, and the predicted pair. A matrix stands flat, four
 // numbers a row; what stands outside its sizes is ignored.
@@ -131,31 +130,27 @@ impl RtsSmoother {
     }
 
     // The state size, where a buffer of len numbers is just room slots long and a slot has that size.
+    #[tactic(auto, unfolding(crate::specs::Record::storable))]
     fn storable(self, len: usize, size: usize) -> Result<Size, Refusal>
         ensures { result ≡ where_sized (storable len self.n self.room self.count size) (size_of self.n) }
     {
         let n = self.sizes().buffered(len)?;
-        if self.n == size {
-            Ok(n)
-        } else {
-            Err(Refusal::WrongSize)
-        }
+        fits(self.n == size)?;
+        Ok(n)
     }
 
     fn store(self, slots: &mut [f64], state: FilteredState) -> Result<RtsSmoother, Refusal>
         ensures { (result, slots.new) ≡ store_in self slots.old state }
     {
         let n = self.storable(slots.len(), state.n)?;
-        let count = self.count;
-        if count < self.room {
-            put_slot(slots, count * stride(n), state, n);
-            Ok(RtsSmoother {
-                count: count + 1,
-                ..self
-            })
-        } else {
-            Err(Refusal::BufferFull)
+        if self.room <= self.count {
+            return Err(Refusal::BufferFull);
         }
+        put_slot(slots, self.count * stride(n), state, n);
+        Ok(RtsSmoother {
+            count: self.count + 1,
+            ..self
+        })
     }
 
     // One slot more, after those stored. Refused with 1: a size or the count of the record, a slot of another
@@ -166,25 +161,12 @@ impl RtsSmoother {
         self.step(self.store(slots, state))
     }
 
-    // The state size, where slot k can be handed out.
-    fn slot_size(self, slots: &[f64], k: usize) -> Result<Size, Refusal>
-        ensures { result ≡ if_sized (buffered (length slots.now) self.n self.room self.count)
-            (refused_if (leb self.count k) IndexOutOfRange (size_of self.n)) }
-    {
-        let size = self.sizes().buffered(slots.len())?;
-        if k < self.count {
-            Ok(size)
-        } else {
-            Err(Refusal::IndexOutOfRange)
-        }
-    }
-
     // Why slot k cannot be handed out: refused with 1 for a size, the count or the buffer's length, with 6 where k is not below
     // the count.
     pub fn get_state_refusal(self, slots: &[f64], k: usize) -> Result<(), Refusal>
         ensures { result ≡ get_state_refusal self slots.now k }
     {
-        self.slot_size(slots, k)?;
+        self.sizes().slot(slots, k)?;
         Ok(())
     }
 
@@ -193,13 +175,8 @@ impl RtsSmoother {
         ensures value { result.now ≡ get_state self slots.now k }
         ensures place { result.ref_ptr ≡ place_of self slots.now k slots.entry.ref_ptr }
     {
-        match self.slot_size(slots, k) {
-            Ok(size) => {
-                let slot = stride(size);
-                let from = k * slot;
-                let end = from + slot;
-                &slots[from..end]
-            }
+        match self.sizes().slot(slots, k) {
+            Ok(slot) => slot,
             Err(_) => &slots[..0],
         }
     }
@@ -215,11 +192,8 @@ impl RtsSmoother {
     ) -> Result<(), Refusal>
         ensures { (result, output.new) ≡ smooth_with self slots.now transition k output.old }
     {
-        if self.n == k {
-            rts_pass::smooth(slots, self.sizes(), transition, output)
-        } else {
-            Err(Refusal::WrongSize)
-        }
+        fits(self.n == k)?;
+        rts_pass::smooth(slots, self.sizes(), transition, output)
     }
 }
 

@@ -6,7 +6,7 @@ use lib.ListN.{length}
 use Rattle.sizes.specs.Size.{count, part}
 use Rattle.filtering.specs.Filter.{Estimate, estimate}
 use Rattle.steps.specs.Step.{arrays_of}
-use Rattle.small_inverse.proofs.Exits.{exit}
+use Rattle.answer.proofs.Exits.{exit}
 use Rattle.layout.specs.Layout.{pair_length, stride}
 use Rattle.duty.specs.Buffer.{pair_at, slot_from}
 use Rattle.duty.proofs.Sizes.{part_room}

@@ -1,34 +1,24 @@
 -- `buffered` meets its contract: the product does not wrap where the sizes are right.
-use mathlib.Core.Path.{◌≡◌, ap, ◌∙◌, subst⁻¹}
-use Prim.Native.Nat.{ℕ, ◌*◌, ◌<◌, ◌^◌}
-use native.Mathlib.Omega.{arith}
-use Rattle.layout.specs.Layout.{stride}
-use Rattle.duty.specs.Buffer.{counted, buffered}
-use Rattle.duty.proofs.Sizes.{counted_of, counted-given, refused-before, passed_after, failed_after, just_parts, other-parts, buffer-small}
+use Rattle.std.proofs.Common.{arith, rules}
+use Rattle.duty.specs.Buffer.{buffered}
+use Rattle.duty.proofs.Sizes.{slots_given}
 use Rattle.duty.proofs.Room.buffered.Goals as goal
-
-pub returns-in_err-size : goal.returns-in_err-size
-unfolding buffered
-returns-in_err-size c = let s = c.args.self in refused-before _ (counted s.n s.room s.count) _ c.from_residual.ensures.1 c.counted.ensures c.in_err-size.was
 
 pub overflow_mul-self : goal.overflow_mul-self
 overflow_mul-self c =
     let s = c.args.self in
-    let g = counted-given s.n s.room s.count c.counted.ensures c.in_ok-size.was in
-    let t = (counted_of s.n s.room s.count g.passed) in
-    let long : c.stride.result ≡ stride s.n = c.stride.ensures ∙ ap stride g.size in
-    record { fits = subst⁻¹ (λ (r : ℕ). s.room * r < 2 ^ 64) long (omega (arith, buffer-small t.bounds.most t.few)) }
+    omega (arith, slots_given s.n s.room s.count c.counted.ensures c.in_ok-size.was c.stride.ensures)
 
-pub returns-then-len-self : goal.returns-then-len-self
+pub returns-in_err-fits : goal.returns-in_err-fits
 unfolding buffered
-returns-then-len-self c =
+returns-in_err-fits c =
     let s = c.args.self in
-    let g = counted-given s.n s.room s.count c.counted.ensures c.in_ok-size.was in
-    passed_after _ (counted s.n s.room s.count) _ c.counted.ensures c.in_ok-size.was (just_parts c.args.len s.room (c.stride.ensures ∙ ap stride g.size) c.if-len-self.true)
+    let f = rw (slots_given s.n s.room s.count c.counted.ensures c.in_ok-size.was c.stride.ensures).is at c.fits.ensures in
+    search rules
 
-pub returns-else-len-self : goal.returns-else-len-self
+pub returns : goal.returns
 unfolding buffered
-returns-else-len-self c =
+returns c =
     let s = c.args.self in
-    let g = counted-given s.n s.room s.count c.counted.ensures c.in_ok-size.was in
-    failed_after _ (counted s.n s.room s.count) _ c.counted.ensures c.in_ok-size.was (other-parts c.args.len s.room (c.stride.ensures ∙ ap stride g.size) c.if-len-self.false)
+    let f = rw (slots_given s.n s.room s.count c.counted.ensures c.in_ok-size.was c.stride.ensures).is at c.fits.ensures in
+    search rules

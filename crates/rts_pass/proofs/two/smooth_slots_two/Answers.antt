@@ -5,7 +5,7 @@ use native.Mathlib.Omega.{arith}
 use Rattle.answer.specs.Answer.{mapped}
 use Rattle.algebra.specs.Array.{cut, used}
 use Rattle.road.specs.Road.{estimate_of}
-use Rattle.small_inverse.proofs.Exits.{exit}
+use Rattle.answer.proofs.Exits.{exit}
 use Rattle.duty.specs.Buffer.{slot_from}
 use Rattle.duty.proofs.Passes.{going_start, going_more, going_stop, going_done}
 use Rattle.rts_pass.proofs.two.smooth_slots_two.Goals as goal
