@@ -9,10 +9,8 @@ use std::io;
 // The report of a sheet, printed.
 fn print_report(rt: &impl Print, input: &[u8]) -> io::Result<()> {
     let mut output = [0u8; 1600];
-    match report(input, &mut output[..]) {
-        Ok(count) => rt.write_all(&output[..count]),
-        Err(_) => Ok(()),
-    }
+    let count = report(input, &mut output[..]).unwrap();
+    rt.write_all(&output[..count])
 }
 
 fn main(rt: HostRuntime) -> io::Result<()> {

@@ -2,7 +2,7 @@
 use mathlib.Core.Path.{◌≡◌, refl, ◌∙◌}
 use mathlib.Core.List.{List, [], ◌∷◌, ◌++◌, append_assoc, append-nil}
 use Prim.Native.Nat.{ℕ, ◌+◌, ◌≤◌, ◌<◌}
-use native.Mathlib.Nat.{add-zero, add_assoc}
+use native.Mathlib.Nat.{add_assoc}
 use native.Mathlib.Numerals.{add-one}
 use native.Mathlib.Omega.{arith}
 use lib.IntN.{ℤ}
@@ -29,9 +29,6 @@ after_prepend e z (Ok zs) = rw append_assoc
 pub record Marked (xs : List Float) (first : ℕ) (e : List ℤ) (i : ℕ) : Type 0 where
   pub long : length e ≡ i
   pub rest : mapped metres_held (all_metres first xs) ≡ mapped (after e) (all_metres (first + i) (drop i xs))
-
-pub marks_none : (xs : List Float) (first : ℕ) → Marked xs first [] 0
-marks_none xs first = record { long = refl; rest = rw add-zero }
 
 module _ {xs : List Float} {first : ℕ} {e : List ℤ} {i : ℕ} (m : Marked xs first e i) where
   pub marks_all : length xs ≤ i → mapped metres_held (all_metres first xs) ≡ Ok (record { items = e })

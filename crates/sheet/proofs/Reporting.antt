@@ -10,29 +10,30 @@ use Rattle.answer.specs.declared.Refusal.TheVariants.{SingularMatrix}
 use Rattle.tracking.specs.Track.{rejected}
 use Rattle.tracker.specs.Tracked.{told, track_in}
 use Rattle.tracker.specs.declared.Positions.{Positions}
+use Rattle.tracker.specs.declared.Rejected.{Rejected}
 use Rattle.sheets.specs.declared.SheetRefusal.{SheetRefusal}
 use Rattle.sheets.specs.Verdict.{Verdict, refused, mapped, then}
 use Rattle.sheets.specs.Sheet.{Sheet, read_sheet}
 use Rattle.sheets.specs.Output.{all_metres, readings_text}
-use Rattle.sheets.specs.Report.{track_of, lines_of, answer_of}
+use Rattle.sheets.specs.Report.{measured_of, track_of, lines_of, answer_of}
 use Rattle.sheets.proofs.Verdicts.{mapped-given}
 use Rattle.sheets.proofs.Counts.{sheet-counted}
 use Rattle.sheets.proofs.Printed.{tracked-long}
 use Rattle.sheet_reader.specs.Held.{sheet_held}
 use Rattle.sheet_reader.specs.declared.SheetRead.{SheetRead}
 use Rattle.sheet_reader.proofs.Whole.{mapped_err}
-use Rattle.sheet.specs.Held.{float_reading, settings_held, metres_held}
+use Rattle.sheet.specs.Held.{settings_held, metres_held}
 use Rattle.sheet.proofs.Tracking.{tracked_sheet, rejection, positions}
 
 module _ (s : List ℕ) (sh : Sheet) (a : read_sheet s ≡ Ok sh) where
-  is_told : track_in (settings_held (sheet_held sh)) (map float_reading sh.readings) ≡ told (track_of sh)
+  is_told : track_in (settings_held (sheet_held sh)) (map measured_of sh.readings) ≡ told (track_of sh)
   is_told = let f = sheet-counted s sh a in tracked_sheet sh f.few-readings
 
-  sheet_err : (k : ℕ) → Err k ≡ track_in (settings_held (sheet_held sh)) (map float_reading sh.readings) → refused SingularMatrix (2 + length sh.ends + k) ≡ then (read_sheet s) answer_of
+  sheet_err : (k : Rejected) → Err k ≡ track_in (settings_held (sheet_held sh)) (map measured_of sh.readings) → refused SingularMatrix (2 + length sh.ends + k.reading) ≡ then (read_sheet s) answer_of
   unfolding answer_of
-  sheet_err k e = let r : track_of sh ≡ rejected k = rejection (track_of sh) k (e ∙ is_told) in rw (a, r)
+  sheet_err k e = let r : track_of sh ≡ rejected k.reading = rejection (track_of sh) k (e ∙ is_told) in rw (a, r)
 
-  module _ (q : Positions) (e : Ok q ≡ track_in (settings_held (sheet_held sh)) (map float_reading sh.readings)) where
+  module _ (q : Positions) (e : Ok q ≡ track_in (settings_held (sheet_held sh)) (map measured_of sh.readings)) where
     abbrev metres : Verdict (List ℤ)
     metres = all_metres (2 + length sh.ends) (take (length sh.readings) q.smoothed)
 
@@ -53,30 +54,30 @@ module _ (s : List ℕ) (sh : Sheet) (a : read_sheet s ≡ Ok sh) where
 -- ---- the same of what the code holds
 
 module _ (s : List ℕ) (d : SheetRead) (p : Ok d ≡ mapped sheet_held (read_sheet s)) where
-  pub lines_err : (k : ℕ) → Err k ≡ track_in (settings_held d) (map float_reading d.readings.items) → refused SingularMatrix (2 + length d.ends.items + k) ≡ then (read_sheet s) answer_of
+  pub lines_err : (k : Rejected) → Err k ≡ track_in (settings_held d) (map measured_of d.readings.items) → refused SingularMatrix (2 + length d.ends.items + k.reading) ≡ then (read_sheet s) answer_of
   lines_err k =
       let (sh, a, b) = mapped-given sheet_held (read_sheet s) d (sym p) in
       subst
-      (λ (y : SheetRead). Err k ≡ track_in (settings_held y) (map float_reading y.readings.items) → refused SingularMatrix (2 + length y.ends.items + k) ≡ then (read_sheet s) answer_of) b
+      (λ (y : SheetRead). Err k ≡ track_in (settings_held y) (map measured_of y.readings.items) → refused SingularMatrix (2 + length y.ends.items + k.reading) ≡ then (read_sheet s) answer_of) b
       (sheet_err s sh a k)
 
   module _ (q : Positions) where
-    pub lines_bad : Ok q ≡ track_in (settings_held d) (map float_reading d.readings.items) → (w : SheetRefusal)
+    pub lines_bad : Ok q ≡ track_in (settings_held d) (map measured_of d.readings.items) → (w : SheetRefusal)
         → Err w ≡ mapped metres_held (all_metres (2 + length d.ends.items) (take (length d.readings.items) q.smoothed)) → Err w ≡ then (read_sheet s) answer_of
     lines_bad =
         let (sh, a, b) = mapped-given sheet_held (read_sheet s) d (sym p) in
         subst
-        (λ (y : SheetRead). Ok q ≡ track_in (settings_held y) (map float_reading y.readings.items) → (w : SheetRefusal)
+        (λ (y : SheetRead). Ok q ≡ track_in (settings_held y) (map measured_of y.readings.items) → (w : SheetRefusal)
         → Err w ≡ mapped metres_held (all_metres (2 + length y.ends.items) (take (length y.readings.items) q.smoothed)) → Err w ≡ then (read_sheet s) answer_of) b
         (sheet_bad s sh a q)
 
-    pub lines_good : Ok q ≡ track_in (settings_held d) (map float_reading d.readings.items) → (v : ArrayVec ℤ)
+    pub lines_good : Ok q ≡ track_in (settings_held d) (map measured_of d.readings.items) → (v : ArrayVec ℤ)
         → Ok v ≡ mapped metres_held (all_metres (2 + length d.ends.items) (take (length d.readings.items) q.smoothed))
         → Ok (readings_text 1 d.ends.items v.items) ≡ then (read_sheet s) answer_of
     lines_good =
         let (sh, a, b) = mapped-given sheet_held (read_sheet s) d (sym p) in
         subst
-        (λ (y : SheetRead). Ok q ≡ track_in (settings_held y) (map float_reading y.readings.items) → (v : ArrayVec ℤ)
+        (λ (y : SheetRead). Ok q ≡ track_in (settings_held y) (map measured_of y.readings.items) → (v : ArrayVec ℤ)
         → Ok v ≡ mapped metres_held (all_metres (2 + length y.ends.items) (take (length y.readings.items) q.smoothed))
         → Ok (readings_text 1 y.ends.items v.items) ≡ then (read_sheet s) answer_of) b
         (sheet_good s sh a q)

@@ -1,5 +1,5 @@
 -- What the code holds of a sheet on its way from readings to lines. Definitions only.
-use Rattle.std.specs.Prelude.{List, ℕ, ℤ, pos, Float, Option, Some, None}
+use Rattle.std.specs.Prelude.{List, ℕ, ℤ, pos}
 use Rattle.arrayvec.specs.ArrayVec.{ArrayVec}
 use Rattle.sheets.specs.Output.{readings_text}
 use Rattle.sheets.specs.Report.{float_of}
@@ -10,10 +10,6 @@ use Rattle.sheet.specs.declared.lines.Lines.{Lines}
 -- what the tracker is handed
 abbrev pub settings_held : SheetRead → Settings
 settings_held d = record { step = float_of (pos d.step); process = float_of (pos d.process); measurement = float_of (pos d.measurement) }
-
-abbrev pub float_reading : Option ℤ → Option Float
-float_reading None = None
-float_reading (Some z) = Some (float_of z)
 
 abbrev pub metres_held : List ℤ → ArrayVec ℤ
 metres_held zs = record { items = zs }

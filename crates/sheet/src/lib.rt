@@ -2,12 +2,13 @@
 #![tactic(auto)]
 
 ghost use Rattle.std.specs.Prelude.{◌≡◌};
-ghost use Rattle.answer.specs.Told.{given};
+ghost use Rattle.answer.specs.Told.{written as written_to};
 ghost use Rattle.sheets.specs.Report.{report as report_of};
 ghost use Rattle.sheet.specs.Call.{report_told, report_left, report_in};
 
 use answer::Refusal;
 use printing::{ROOM, report_text};
+use sizes::fits;
 
 mod lines;
 mod printing;
@@ -19,25 +20,17 @@ pub fn report(sheet: &[u8], output: &mut [u8]) -> Result<usize, Refusal>
     ensures { (result ≡ report_told (report_of sheet.now) output.old)
         × (output.new ≡ report_left (report_of sheet.now) output.old) }
 {
-    if output.len() < ROOM {
-        return Err(Refusal::WrongSize);
-    }
+    fits(ROOM <= output.len())?;
     let text = report_text(sheet);
     output[..text.len()].copy_from_slice(text.as_slice());
     Ok(text.len())
 }
 
-// The same with a lent place for the number of bytes, as the C interface has it: 0 and the number written there; or 1, and everything
-// unchanged.
-pub fn sheet_report(sheet: &[u8], output: &mut [u8], written: &mut usize) -> u8
+// The same with a lent place for the number of bytes, as the C interface has it. A refusal leaves everything unchanged.
+pub fn sheet_report(sheet: &[u8], output: &mut [u8], written: &mut usize) -> Result<(), Refusal>
     ensures { (result, (written.new, output.new))
-        ≡ given (written.old, output.old) (report_in (report_of sheet.now) output.old) }
+        ≡ written_to (written.old, output.old) (report_in (report_of sheet.now) output.old) }
 {
-    match report(sheet, output) {
-        Ok(count) => {
-            *written = count;
-            0
-        }
-        Err(refusal) => u8::from(refusal),
-    }
+    *written = report(sheet, output)?;
+    Ok(())
 }

@@ -46,9 +46,9 @@ pub(crate) fn lines_of(s: &[u8]) -> Result<Lines, SheetRefusal>
             metres: all_metres(&positions.smoothed[..sheet.readings.len()], first)?,
             ends: sheet.ends,
         }),
-        Err(k) => Err(SheetRefusal {
+        Err(rejected) => Err(SheetRefusal {
             refusal: Refusal::SingularMatrix,
-            line: first + k as u32,
+            line: first + rejected.reading as u32,
         }),
     }
 }

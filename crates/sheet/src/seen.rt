@@ -1,13 +1,14 @@
 // What may be asked of a sheet that was read: the positions of its readings, and the stage of whole metres.
 ghost use Rattle.std.specs.Prelude.{◌≡◌, ◌<◌, ◌≤◌, int_le, length, map, position, pos, IfErr};
+ghost use Rattle.sheets.specs.Report.{measured_of};
 ghost use Rattle.sheets.specs.Stage.{stage_of};
 ghost use Rattle.tracker.specs.Tracked.{track_in};
-ghost use Rattle.sheet.specs.Held.{float_reading, settings_held};
+ghost use Rattle.sheet.specs.Held.{settings_held};
 
 use arrayvec::ArrayVec;
 use sheet_reader::SheetRead;
 use std::num::nearest_i64_to_f64;
-use tracker::{Positions, Settings, track};
+use tracker::{Positions, Rejected, Settings, track};
 
 // Step and noises as floats.
 fn settings_of(sheet: &SheetRead) -> Settings
@@ -23,7 +24,7 @@ fn settings_of(sheet: &SheetRead) -> Settings
 // Readings as floats.
 fn float_readings(readings: &[Option<i64>]) -> ArrayVec<Option<f64>, 64>
     requires { length readings.now ≤ 64 }
-    ensures { result.items ≡ map float_reading readings.now }
+    ensures { result.items ≡ map measured_of readings.now }
 {
     let mut floats = ArrayVec::new();
     for reading in readings {
@@ -32,10 +33,10 @@ fn float_readings(readings: &[Option<i64>]) -> ArrayVec<Option<f64>, 64>
     floats
 }
 
-// The positions of a sheet's readings, filtered and smoothed; or the reading, from 0, that is refused.
-pub fn positions_of(sheet: &SheetRead) -> Result<Positions, usize>
-    ensures positions { result ≡ track_in (settings_held sheet.now) (map float_reading sheet.now.readings.items) }
-    ensures placed { IfErr result (λ k. k < 64) }
+// The positions of a sheet's readings, filtered and smoothed; or the reading that is rejected.
+pub fn positions_of(sheet: &SheetRead) -> Result<Positions, Rejected>
+    ensures positions { result ≡ track_in (settings_held sheet.now) (map measured_of sheet.now.readings.items) }
+    ensures placed { IfErr result (λ e. e.reading < 64) }
 {
     let readings = float_readings(sheet.readings.as_slice());
     track(settings_of(sheet), readings.as_slice())

@@ -1,6 +1,4 @@
 pub mod Line
 pub mod Fill
-pub mod Ends
-pub mod Readings
 pub mod HeadLine
 pub mod Whole

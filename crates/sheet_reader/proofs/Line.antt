@@ -5,13 +5,13 @@ use mathlib.Core.List.{List, ◌∷◌, append-nil}
 use Prim.Native.Nat.{ℕ, zero, suc, ◌+◌, ◌-◌, ◌*◌, ◌≤◌, ◌<◌}
 use native.Mathlib.Omega.{arith}
 use lib.IntN.{ℤ, pos}
-use lib.ListN.{length, get_or, set, replicate, length-replicate, drop_of_length-le}
+use lib.ListN.{length, set, replicate, length-replicate, drop_of_length-le}
 use borrow.Author.Tests.{le-leb}
 use Rattle.std.specs.Prelude.{Some, None}
 use Rattle.answer.specs.Table.{table}
 use Rattle.answer.proofs.Tables.{table_ext, filled, filled_more}
 use Rattle.sheets.specs.Line.{field_at, or_zero, fields_read, form, values}
-use Rattle.sheets.proofs.Lines.{form-fields, fields_bad, fields-step, fields-end}
+use Rattle.sheets.proofs.Lines.{fields_bad, fields-step, fields-end}
 use Rattle.sheet_text.specs.Held.{field_in}
 use Rattle.sheet_reader.specs.Held.{line_at}
 
@@ -35,12 +35,6 @@ pub record Reads (k at : ℕ) (s : List ℕ) (i : ℕ) (l : List ℤ) : Type 0 w
 
 pub no_line : (k : ℕ) (s : List ℕ) (at : ℕ) → form k s at ≡ false → None ≡ line_at k s at
 no_line k s at e = rw e
-
-pub reads_none : (k at : ℕ) (s : List ℕ) → at + 8 * k < length s → get_or s (at + 8 * k) 0 ≡ 10 → Reads k at s 0 (replicate k (pos 0))
-reads_none k at s h e =
-    let z : at + 8 * 0 ≡ at = omega arith in
-    let y : k - 0 ≡ k = omega arith in
-    record { there = h; rest = rw (y, z) (form-fields k at s h e); read = refl }
 
 module _ {k at : ℕ} {s : List ℕ} {i : ℕ} {l : List ℤ} (r : Reads k at s i l) where
   -- the field that is read is there

@@ -1,8 +1,8 @@
 -- What the code holds of a sheet that it reads. Definitions only.
-use Rattle.std.specs.Prelude.{cond, List, [], ◌∷◌, map, ℕ, ℤ, nat_abs, Option, Some, None}
+use Rattle.std.specs.Prelude.{Bool, cond, List, [], map, ℕ, ℤ, nat_abs, Option, Some, None}
 use Rattle.arrayvec.specs.ArrayVec.{ArrayVec}
 use Rattle.sheets.specs.Line.{form, nth, values}
-use Rattle.sheets.specs.Sheet.{Sheet, only, end_of, end_in_range, head_test, reading_in_range, reading_of, stages_of, readings_of}
+use Rattle.sheets.specs.Sheet.{Sheet, only, end_of, head_test, reading_of, stages_of, readings_of}
 use Rattle.sheet_reader.specs.declared.SheetRead.{SheetRead}
 use Rattle.sheet_reader.specs.declared.head.Head.{Head}
 
@@ -20,11 +20,15 @@ head_in h = cond (head_test [] h) (Some (row_held h)) None
 abbrev pub head_held : List (List ℤ) → Head
 head_held rows = row_held (only rows)
 
+-- what rows say, one after another
+abbrev pub rows_held : {T : Type 0} → (List ℤ → T) → List (List ℤ) → ArrayVec T
+rows_held says rows = record { items = map says rows }
+
 abbrev pub ends_held : List (List ℤ) → ArrayVec ℕ
-ends_held rows = record { items = map end_of rows }
+ends_held = rows_held end_of
 
 abbrev pub readings_held : List (List ℤ) → ArrayVec (Option ℤ)
-readings_held rows = record { items = map reading_of rows }
+readings_held = rows_held reading_of
 
 abbrev pub sheet_held : Sheet → SheetRead
 sheet_held sh =
@@ -36,10 +40,9 @@ sheet_held sh =
       readings = record { items = sh.readings };
     }
 
--- a stage's end, where it is in range and above the one before
-abbrev pub end_held : ℕ → ℤ → Option ℕ
-end_held before end = cond (end_in_range before end) (Some (nat_abs end)) None
+-- what a line's numbers say where they are in range, by what the line before said; and the test of them by the numbers before
+abbrev pub said_by : {T : Type 0} → (List ℤ → T) → (T → List ℤ → Bool) → T → List ℤ → Option T
+said_by says in_range before zs = cond (in_range before zs) (Some (says zs)) None
 
--- what a line's kind and metres say, where they are in range
-abbrev pub reading_held : ℤ → ℤ → Option (Option ℤ)
-reading_held kind metres = cond (reading_in_range kind metres) (Some (reading_of (kind ∷ metres ∷ []))) None
+abbrev pub test_by : {T : Type 0} → (List ℤ → T) → (T → List ℤ → Bool) → List ℤ → List ℤ → Bool
+test_by says in_range before zs = in_range (says before) zs

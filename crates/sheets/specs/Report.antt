@@ -1,6 +1,5 @@
 -- The whole output of the whole input: the sheet is read, filtered and smoothed; then a line is printed for each reading, or the refusal's. Definitions only.
 use Rattle.std.specs.Prelude.{List, map, ℕ, ◌+◌, ℤ, pos, Float, length, Option, None, Some, Ok}
-use Rattle.std.proofs.Math.Option as tracked_option
 use Rattle.std.specs.Float.{binary64}
 use Rattle.std.specs.Float.Ieee.{of_int}
 use Rattle.tracking.specs.Track.{Settings, Smoothed, Tracked, rejected, tracked, track}
@@ -17,9 +16,9 @@ float_of z = of_int binary64 z
 abbrev pub settings_of : Sheet → Settings
 settings_of sh = record { step = float_of (pos sh.step); process = float_of (pos sh.process); measurement = float_of (pos sh.measurement) }
 
-abbrev pub measured_of : Option ℤ → tracked_option.Option Float
-measured_of None = tracked_option.none
-measured_of (Some z) = tracked_option.some (float_of z)
+abbrev pub measured_of : Option ℤ → Option Float
+measured_of None = None
+measured_of (Some z) = Some (float_of z)
 
 unfoldable pub track_of : Sheet → Tracked (List Smoothed)
 track_of sh = track (settings_of sh) (map measured_of sh.readings)

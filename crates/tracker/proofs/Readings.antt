@@ -3,8 +3,7 @@ use mathlib.Core.Path.{◌≡◌, refl, sym, ap, ◌∙◌}
 use mathlib.Core.List.{[], ◌∷◌}
 use lib.ListN.{replicate}
 use lib.Ieee.{Float}
-use Rattle.std.specs.Prelude.{Ok, Err}
-use Rattle.std.proofs.Math.Option.{Option, some}
+use Rattle.std.specs.Prelude.{Option, Some, Ok, Err}
 use Rattle.scalar.specs.Number.{+0}
 use Rattle.answer.specs.Answer.{Answer, mapped}
 use Rattle.answer.specs.Outcome.{Outcome, Left, unchanged, this, final, standing, done}
@@ -35,7 +34,7 @@ found Y e (Ok i) (Err j) x y = absurd (differ (sym x))
 found Y e (Ok i) (Ok v) x y = ap Ok (sym y)
 
 pub updated : (Y : Sensor Matrix) (z : Float) (e : Estimate) (a : Answer Innovation) → (mapped (λ i. i.innovation) a, corrected_by Y e a) ≡ updated_of e (update Y (z ∷ []) e)
-    → mapped (corrected_of Y e) a ≡ corrected Y (some (z ∷ [])) e
+    → mapped (corrected_of Y e) a ≡ corrected Y (Some (z ∷ [])) e
 unfolding corrected
 updated Y z e a u =
     let o = update Y (z ∷ []) e in

@@ -3,11 +3,10 @@ use Prim.Native.Nat.{ℕ, zero, suc, ◌+◌, ◌*◌, ◌-◌, ◌<◌, ◌≤�
 use native.Mathlib.Omega.{arith}
 use mathlib.Core.Path.{◌≡◌, refl, sym, ap, ap₂, ◌∙◌}
 use mathlib.Core.Bool.{Bool, true, false}
-use mathlib.Core.Option.{none, some}
 use mathlib.Core.List.{List, [], ◌∷◌}
 use lib.ListN.{drop}
 use lib.Ieee.{Float}
-use Rattle.std.specs.Prelude.{Ok, Err, is_err}
+use Rattle.std.specs.Prelude.{None, Some, Ok, Err, is_err}
 use Rattle.answer.specs.Answer.{Answer}
 use Rattle.answer.specs.Table.{table}
 use Rattle.algebra.specs.Matrix.{Matrix, at, two_by_two}
@@ -47,7 +46,7 @@ unfolding rejects
 rejects_two b k q eq eo et = tested (inv 2 (slot_at 2 b k).predicted.covariance) ∙ ap is_err (sym (eo ∙ ap (inv 2) (covariance-two b k q eq))) ∙ sym et
 
 -- the last of c slots does not count
-none_in_last : (b : List Float) (c : ℕ) → latest 2 (drop (c - 1) (slots_of 2 b c)) ≡ none
+none_in_last : (b : List Float) (c : ℕ) → latest 2 (drop (c - 1) (slots_of 2 b c)) ≡ None
 unfolding latest
 none_in_last b zero = let e : 0 - 1 ≡ 0 = omega arith in ap (λ (m : ℕ). latest 2 (drop m (slots_of 2 b 0))) e
 none_in_last b (suc c) =
@@ -58,7 +57,7 @@ none_in_last b (suc c) =
 module _ (b : List Float) (c : ℕ) where
   pub record Searching (k : ℕ) : Type 0 where
     pub below : k ≤ c - 1
-    pub no_later : latest 2 (drop k (slots_of 2 b c)) ≡ none
+    pub no_later : latest 2 (drop k (slots_of 2 b c)) ≡ None
 
   pub searching-start : {k : ℕ} → k ≡ c - 1 → Searching k
   searching-start e = record { below = omega arith; no_later = ap (λ (m : ℕ). latest 2 (drop m (slots_of 2 b c))) e ∙ none_in_last b c }
@@ -69,7 +68,7 @@ module _ (b : List Float) (c : ℕ) where
         table_from c (λ i. slot_at 2 b i) j (omega (arith, t.below))
         ∙ ap (λ (l : List Slot). slot_at 2 b j ∷ l) (ap (λ (m : ℕ). drop m (slots_of 2 b c)) e ∙ table_from c (λ i. slot_at 2 b i) k (omega (arith, t.below)))
 
-    none_after : latest 2 (slot_at 2 b k ∷ drop (suc k) (slots_of 2 b c)) ≡ none
+    none_after : latest 2 (slot_at 2 b k ∷ drop (suc k) (slots_of 2 b c)) ≡ None
     none_after = ap (latest 2) (sym (table_from c (λ i. slot_at 2 b i) k (omega (arith, t.below)))) ∙ t.no_later
 
     pub searching-more : rejects 2 (slot_at 2 b j) ≡ false → Searching j
@@ -79,10 +78,7 @@ module _ (b : List Float) (c : ℕ) where
       no_later = ap (latest 2) two_from ∙ ap₂ or_here h none_after;
     }
 
-    pub searching-found : rejects 2 (slot_at 2 b j) ≡ true → some j ≡ latest 2 (slots_of 2 b c)
+    pub searching-found : rejects 2 (slot_at 2 b j) ≡ true → Some j ≡ latest 2 (slots_of 2 b c)
     searching-found h =
         sym (latest_from 2 j (slots_of 2 b c)
         (ap (latest 2) two_from ∙ latest-first 2 (slot_at 2 b j) (slot_at 2 b k) (drop (suc k) (slots_of 2 b c)) (rejects-true 2 (slot_at 2 b j) h) none_after))
-
-  pub searching-none : {k : ℕ} → Searching k → k ≡ 0 → none ≡ latest 2 (slots_of 2 b c)
-  searching-none t e = sym (ap (λ (m : ℕ). latest 2 (drop m (slots_of 2 b c))) (sym e) ∙ t.no_later)

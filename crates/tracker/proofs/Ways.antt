@@ -2,7 +2,7 @@
 use Prim.Native.Nat.{ℕ, min}
 use native.Mathlib.Omega.{arith}
 use mathlib.Core.Path.{◌≡◌, sym, ap, ◌∙◌}
-use mathlib.Core.List.{List, map, map-map}
+use mathlib.Core.List.{List, map}
 use lib.ListN.{length, take}
 use lib.Ieee.{Float}
 use Rattle.std.specs.Prelude.{Option, Result, Ok, Err, IsErrAnd}
@@ -15,7 +15,8 @@ use Rattle.smoothing.specs.Smoother.{Slot}
 use Rattle.tracking.specs.Track.{Tracked, Smoothed, and_then, slots_from, measured, positions, smoothed_by, duty_of, motion, slots, track}
 use Rattle.tracker.specs.declared.Settings.{Settings}
 use Rattle.tracker.specs.declared.Positions.{Positions}
-use Rattle.tracker.specs.Tracked.{settings_of, reading_of, slots_in, tracked_of, told, smoothed_of, track_in}
+use Rattle.tracker.specs.declared.Rejected.{Rejected}
+use Rattle.tracker.specs.Tracked.{settings_of, slots_in, tracked_of, told, smoothed_of, track_in}
 
 -- as many of z as there are, up to 64
 pub first_of : (z : List (Option Float)) {u : ℕ} → u ≡ min (length z) 64 → take u z ≡ take 64 z
@@ -23,29 +24,29 @@ first_of z {u} h = let e : u ≡ min 64 (length z) = omega arith in ap (λ (n : 
 
 -- f is the filter of the settings s, u are the readings that are used, l are the slots, and r is what the filter told
 module _ (s : Settings) (f : Road) (ef : road_of f ≡ tracker_of s.step s.process s.measurement) (z u : List (Option Float)) (eu : u ≡ take 64 z)
-    (r : Result Unit ℕ) (l : List Slot) (er : tracked_of r l ≡ slots_in f u) where
+    (r : Result Unit Rejected) (l : List Slot) (er : tracked_of r l ≡ slots_in f u) where
   abbrev S : Tracked (List Slot)
-  S = slots (settings_of s) (map reading_of (take 64 z))
+  S = slots (settings_of s) (take 64 z)
 
   stored : tracked_of r l ≡ S
   unfolding slots
   stored =
       er
-      ∙ ap (λ (F : Filter). slots_from F.motion F.sensor 0 F.start (map (λ x. measured (reading_of x)) u)) ef
-      ∙ ap (slots_from (motion (settings_of s)) (tracker_sensor s.measurement) 0 at_start) (ap (map (λ x. measured (reading_of x))) eu ∙ sym (map-map measured reading_of (take 64 z)))
+      ∙ ap (λ (F : Filter). slots_from F.motion F.sensor 0 F.start (map measured u)) ef
+      ∙ ap (slots_from (motion (settings_of s)) (tracker_sensor s.measurement) 0 at_start) (ap (map measured) eu)
 
   abbrev onward : Tracked (List Slot) → Tracked (List Smoothed)
   onward o = and_then o λ d. smoothed_by positions (duty_of (motion (settings_of s)) d)
 
-  pub track-rejected : {k : ℕ} (x : Result Positions ℕ) → IsErrAnd x (λ j. j ≡ k) → r ≡ Err k → x ≡ track_in s z
+  pub track-rejected : {k : Rejected} (x : Result Positions Rejected) → IsErrAnd x (λ j. j ≡ k) → r ≡ Err k → x ≡ track_in s z
   unfolding track
   track-rejected x q e =
       let w = err_from_is_err_and x q in
-      w.1 ∙ ap Err w.2 ∙ ap (λ (o : Tracked (List Slot)). told (onward o)) (ap (λ (p : Result Unit ℕ). tracked_of p l) (sym e) ∙ stored)
+      w.1 ∙ ap Err w.2 ∙ ap (λ (o : Tracked (List Slot)). told (onward o)) (ap (λ (p : Result Unit Rejected). tracked_of p l) (sym e) ∙ stored)
 
-  pub track-smoothed : {t : Unit} {x : Result Positions ℕ} → r ≡ Ok t → x ≡ smoothed_of (matrix_of f.motion.a) l → x ≡ track_in s z
+  pub track-smoothed : {t : Unit} {x : Result Positions Rejected} → r ≡ Ok t → x ≡ smoothed_of (matrix_of f.motion.a) l → x ≡ track_in s z
   unfolding track
   track-smoothed e ex =
       ex
       ∙ ap (λ (F : Filter). told (smoothed_by positions (duty_of F.motion l))) ef
-      ∙ ap (λ (o : Tracked (List Slot)). told (onward o)) (ap (λ (p : Result Unit ℕ). tracked_of p l) (sym e) ∙ stored)
+      ∙ ap (λ (o : Tracked (List Slot)). told (onward o)) (ap (λ (p : Result Unit Rejected). tracked_of p l) (sym e) ∙ stored)

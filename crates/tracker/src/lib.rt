@@ -6,8 +6,8 @@ ghost use Rattle.std.specs.Prelude.{◌≡◌, ◌*◌, ◌≤◌, length};
 ghost use Rattle.answer.specs.Answer.{mapped};
 ghost use Rattle.road.specs.Road.{matrix_of, motion_of, sensor_of, estimate_of};
 ghost use Rattle.duty.specs.Buffer.{slots_of};
-ghost use Rattle.tracking.specs.Track.{moved as moved_of, corrected as corrected_of};
-ghost use Rattle.tracker.specs.Tracked.{measured_of, slots_in, tracked_of, smoothed_of, track_in};
+ghost use Rattle.tracking.specs.Track.{measured, moved as moved_of, corrected as corrected_of};
+ghost use Rattle.tracker.specs.Tracked.{slots_in, tracked_of, smoothed_of, track_in};
 
 use answer::Refusal;
 use duty::Room;
@@ -32,6 +32,12 @@ pub struct Positions {
     pub smoothed: [f64; 64],
 }
 
+// The reading, from 0, at which inversion rejects a matrix.
+#[derive(Clone, Copy, Debug, PartialEq, Eq)]
+pub struct Rejected {
+    pub reading: usize,
+}
+
 // ---- a reading
 
 // One predict, with input zero.
@@ -43,7 +49,7 @@ fn moved(motion: Motion, e: Pair) -> Pair
 
 // An update if there is a reading.
 fn corrected(sensor: Sensor, reading: Option<f64>, e: Pair) -> Result<Pair, Refusal>
-    ensures { mapped estimate_of result ≡ corrected_of (sensor_of sensor) (measured_of reading) (estimate_of e) }
+    ensures { mapped estimate_of result ≡ corrected_of (sensor_of sensor) (measured reading) (estimate_of e) }
 {
     match reading {
         Some(z) => {
@@ -55,16 +61,15 @@ fn corrected(sensor: Sensor, reading: Option<f64>, e: Pair) -> Result<Pair, Refu
 }
 
 // A slot for each reading; or the first reading that is refused.
-fn filter(f: Road, readings: &[Option<f64>], slots: &mut [f64]) -> Result<(), usize>
+fn filter(f: Road, readings: &[Option<f64>], slots: &mut [f64]) -> Result<(), Rejected>
     requires { (length readings.now ≤ 64) × (length readings.now * 12 ≤ length slots.old) }
     ensures { tracked_of result (slots_of 2 slots.new (length readings.now)) ≡ slots_in f readings.now }
 {
     let motion = f.motion;
     let mut e = f.pair;
-    // The index is a reading and a place among the slots.
-    for k in 0..readings.len() {
-        let Ok(next) = corrected(f.sensor, readings[k], moved(motion, e)) else {
-            return Err(k);
+    for (k, reading) in readings.iter().enumerate() {
+        let Ok(next) = corrected(f.sensor, *reading, moved(motion, e)) else {
+            return Err(Rejected { reading: k });
         };
         e = next;
         put_slot(slots, k * 12, e, moved(motion, e));
@@ -75,7 +80,7 @@ fn filter(f: Road, readings: &[Option<f64>], slots: &mut [f64]) -> Result<(), us
 // ---- all readings
 
 // The first stored slots smoothed, with the transition a; or the slot at which that is refused.
-fn smoothed(slots: [f64; 768], stored: usize, a: Two) -> Result<Positions, usize>
+fn smoothed(slots: [f64; 768], stored: usize, a: Two) -> Result<Positions, Rejected>
     requires { stored ≤ 64 }
     ensures { result ≡ smoothed_of (matrix_of a) (slots_of 2 slots stored) }
 {
@@ -97,7 +102,7 @@ fn smoothed(slots: [f64; 768], stored: usize, a: Two) -> Result<Positions, usize
             smoothed: gathered(&pairs[..], 6, stored),
         }),
         Err(_) => match latest_rejected(&slots[..], stored) {
-            Some(k) => Err(k),
+            Some(reading) => Err(Rejected { reading }),
             None => Ok(Positions {
                 filtered: [0.0; 64],
                 smoothed: [0.0; 64],
@@ -106,8 +111,8 @@ fn smoothed(slots: [f64; 768], stored: usize, a: Two) -> Result<Positions, usize
     }
 }
 
-// The readings, filtered and smoothed; past 64 they play no part. Refused: a reading, from 0, where inversion rejects a matrix.
-pub fn track(settings: Settings, readings: &[Option<f64>]) -> Result<Positions, usize>
+// The readings, filtered and smoothed; past 64 they play no part.
+pub fn track(settings: Settings, readings: &[Option<f64>]) -> Result<Positions, Rejected>
     ensures { result ≡ track_in settings readings.now }
 {
     let f = Road::position_velocity(settings.step, settings.process, settings.measurement);

@@ -4,7 +4,7 @@ ghost use Rattle.layout.specs.Layout.{placed};
 ghost use Rattle.duty.specs.Buffer.{slot_numbers, slots_of};
 ghost use Rattle.rts_road.specs.Slot.{slot_of_two};
 ghost use Rattle.tracking.specs.Track.{latest};
-ghost use Rattle.tracker.specs.Tracked.{option_of, gathered_from};
+ghost use Rattle.tracker.specs.Tracked.{gathered_from};
 
 use road::Pair;
 use small_inverse::inverse_two;
@@ -24,8 +24,9 @@ pub(crate) fn put_slot(slots: &mut [f64], k: usize, e: Pair, y: Pair)
 // The latest slot before the last whose predicted covariance inversion rejects.
 pub(crate) fn latest_rejected(slots: &[f64], stored: usize) -> Option<usize>
     requires { (stored ≤ 64) × (stored * 12 ≤ length slots.now) }
-    ensures { option_of result ≡ latest 2 (slots_of 2 slots.now stored) }
+    ensures { result ≡ latest 2 (slots_of 2 slots.now stored) }
 {
+    // The index is a slot, and a place among the numbers.
     for k in (0..stored.saturating_sub(1)).rev() {
         let q = k * 12 + 8;
         let inverse = inverse_two(slots[q], slots[q + 1], slots[q + 2], slots[q + 3]);
@@ -36,12 +37,13 @@ pub(crate) fn latest_rejected(slots: &[f64], stored: usize) -> Option<usize>
     None
 }
 
-// The numbers 0, w, 2 w and so on of b, as many as count, and +0 past them. By an index: the places go by one, and the numbers by w.
+// The numbers 0, w, 2 w and so on of b, as many as count, and +0 past them.
 pub(crate) fn gathered(b: &[f64], w: usize, count: usize) -> [f64; 64]
     requires { (count ≤ 64) × (w ≤ 12) × (1 ≤ w) × (count * w ≤ length b.now) }
     ensures { result ≡ gathered_from b.now w count }
 {
     let mut out = [0.0; 64];
+    // The index is a place of out, and w times it the number's.
     for k in 0..count {
         out[k] = b[k * w];
     }

@@ -1,13 +1,12 @@
 -- The latest slot rejected: where `latest` finds it, and that it is where smoothing is refused with 3. Assumes nothing.
-use Prim.Native.Nat.{ℕ, zero, suc, ◌<◌}
+use Prim.Native.Nat.{ℕ, zero, suc}
 use native.Mathlib.Omega.{arith}
 use mathlib.Core.Path.{◌≡◌, refl, sym, ap, ◌∙◌, subst}
 use mathlib.Core.Bool.{Bool, true, false, cond}
-use mathlib.Core.Option.{Option, none, some, get_or}
 use mathlib.Core.Logic.{◌⊎◌, inl, inr}
 use mathlib.Core.List.{List, [], ◌∷◌, zip_with}
 use lib.ListN.{length, drop}
-use Rattle.std.specs.Prelude.{Ok, Err}
+use Rattle.std.specs.Prelude.{Option, None, Some, Ok, Err}
 use Rattle.answer.specs.declared.Refusal.{Refusal}
 use Rattle.answer.specs.declared.Refusal.TheVariants.{InsufficientData, SingularMatrix}
 use Rattle.answer.specs.Answer.{Answer}
@@ -38,8 +37,8 @@ module _ (n : ℕ) (s : Slot) where
 
 -- what `latest` says of the slots l
 data Search (n : ℕ) (l : List Slot) : Option ℕ → Type 0 where
-  found : {k : ℕ} → Latest n l k → Search n l (some k)
-  nothing : (BeforeLast (Rejected n) l → ⊥) → Search n l none
+  found : {k : ℕ} → Latest n l k → Search n l (Some k)
+  nothing : (BeforeLast (Rejected n) l → ⊥) → Search n l None
 
 module _ (n : ℕ) where
   none_in_one : (s : Slot) → BeforeLast (Rejected n) (s ∷ []) → ⊥
@@ -55,7 +54,7 @@ module _ (n : ℕ) where
     step (found c) = found (record { slot = c.slot; next = c.next; later = c.later; there = c.there; is_rejected = c.is_rejected; no_later = c.no_later })
     step (nothing h) = go (rejects n s) refl
       where
-        go : (b : Bool) → rejects n s ≡ b → Search n (s ∷ t ∷ l) (cond b (some 0) none)
+        go : (b : Bool) → rejects n s ≡ b → Search n (s ∷ t ∷ l) (cond b (Some 0) None)
         go true e = found (record { slot = s; next = t; later = l; there = refl; is_rejected = rejects-true n s e; no_later = h })
         go false e = nothing (neither e h)
 
@@ -66,7 +65,7 @@ module _ (n : ℕ) where
   search (s ∷ t ∷ l) = step s t l (search (t ∷ l))
 
   -- of the slots from k on, the first is the latest
-  pub latest_from : (k : ℕ) (l : List Slot) → latest n (drop k l) ≡ some 0 → latest n l ≡ some k
+  pub latest_from : (k : ℕ) (l : List Slot) → latest n (drop k l) ≡ Some 0 → latest n l ≡ Some k
   unfolding latest
   latest_from zero l e = e
   latest_from (suc k) [] e = cc
@@ -75,9 +74,9 @@ module _ (n : ℕ) where
   latest_from (suc k) (s ∷ t ∷ l) e = ap (or_here (rejects n s)) (latest_from k (t ∷ l) e)
 
   -- the first of the slots, none later
-  pub latest-first : (s t : Slot) (l : List Slot) → Rejected n s → latest n (t ∷ l) ≡ none → latest n (s ∷ t ∷ l) ≡ some 0
+  pub latest-first : (s t : Slot) (l : List Slot) → Rejected n s → latest n (t ∷ l) ≡ None → latest n (s ∷ t ∷ l) ≡ Some 0
   unfolding latest
-  latest-first s t l r e = ap (or_here (rejects n s)) e ∙ ap (λ (b : Bool). cond b (some 0) none) (rejected-true n s r)
+  latest-first s t l r e = ap (or_here (rejects n s)) e ∙ ap (λ (b : Bool). cond b (Some 0) None) (rejected-true n s r)
 
   rejected_from : (k : ℕ) (l : List Slot) → BeforeLast (Rejected n) (drop k l) → BeforeLast (Rejected n) l
   rejected_from zero l b = b
@@ -91,14 +90,14 @@ module _ (n : ℕ) where
     latest-rejected = rejected_from k l (subst (BeforeLast (Rejected n)) (sym c.there) (this c.is_rejected))
 
   -- found, or none is rejected
-  pub latest-none : (l : List Slot) → (BeforeLast (Rejected n) l → ⊥) → latest n l ≡ none
+  pub latest-none : (l : List Slot) → (BeforeLast (Rejected n) l → ⊥) → latest n l ≡ None
   latest-none l h = go (latest n l) (search l)
     where
-      go : (o : Option ℕ) → Search n l o → o ≡ none
-      go (some k) (found c) = absurd (h (latest-rejected l k c))
-      go none x = refl
+      go : (o : Option ℕ) → Search n l o → o ≡ None
+      go (Some k) (found c) = absurd (h (latest-rejected l k c))
+      go None x = refl
 
-  pub latest_at : (l : List Slot) (k : ℕ) → Latest n l k → latest n l ≡ some k
+  pub latest_at : (l : List Slot) (k : ℕ) → Latest n l k → latest n l ≡ Some k
   latest_at l k c =
       latest_from k l (ap (latest n) c.there ∙ latest-first c.slot c.next c.later c.is_rejected (latest-none (c.next ∷ c.later) c.no_later))
 
@@ -111,8 +110,8 @@ module _ {R : Type 0} (f : Slot → Estimate → R) (d : Duty) where
     paired : {r : List Estimate} → smooth d ≡ Ok r → length r ≡ length d.slots → Settled (tracked (zip_with f d.slots r))
 
   unsmoothed : (k : Refusal) → smooth d ≡ Err k → (o : Option ℕ) → Search d.size d.slots o → Settled (refused_at o)
-  unsmoothed k e (some j) (found c) = stopped ((demand3.refusals d SingularMatrix).1 (inr (latest-rejected d.size d.slots j c, refl))) c
-  unsmoothed k e none (nothing h) = go ((demand3.refusals d k).0 e)
+  unsmoothed k e (Some j) (found c) = stopped ((demand3.refusals d SingularMatrix).1 (inr (latest-rejected d.size d.slots j c, refl))) c
+  unsmoothed k e None (nothing h) = go ((demand3.refusals d k).0 e)
     where
       go : ((d.slots ≡ []) × (k ≡ InsufficientData)) ⊎ (BeforeLast (Rejected d.size) d.slots × (k ≡ SingularMatrix)) → Settled (tracked [])
       go (inl p) = empty p.0
@@ -136,15 +135,3 @@ module _ {R : Type 0} (f : Slot → Estimate → R) (d : Duty) where
   pub smoothed-answered : {r : List Estimate} → smooth d ≡ Ok r → smoothed_by f d ≡ tracked (zip_with f d.slots r)
   unfolding smoothed_by
   smoothed-answered e = ap told e
-
-  -- the same as a number, where there is a slot
-  pub smoothed-rejected : (k : Refusal) → smooth d ≡ Err k → 0 < length d.slots → smoothed_by f d ≡ rejected (get_or (latest d.size d.slots) 0)
-  smoothed-rejected k e h = smoothed-refused e ∙ go (latest d.size d.slots) (search d.size d.slots)
-    where
-      go : (o : Option ℕ) → Search d.size d.slots o → refused_at {R = R} o ≡ rejected (get_or o 0)
-      go (some j) x = refl
-      go none (nothing free) = absurd (none_left ((demand3.refusals d k).0 e))
-        where
-          none_left : ((d.slots ≡ []) × (k ≡ InsufficientData)) ⊎ (BeforeLast (Rejected d.size) d.slots × (k ≡ SingularMatrix)) → ⊥
-          none_left (inl p) = omega (arith, ap length p.0, h)
-          none_left (inr p) = free p.0

@@ -2,11 +2,10 @@
 use Prim.Native.Nat.{ℕ, suc, ◌+◌, ◌≤◌, ◌<◌}
 use native.Mathlib.Omega.{arith}
 use mathlib.Core.Path.{◌≡◌, refl, sym, ap, ◌∙◌, subst}
-use mathlib.Core.Option.{Option}
 use mathlib.Core.List.{List, [], ◌∷◌, map, zip_with}
 use lib.ListN.{length, length-map}
 use lib.Ieee.{Float}
-use Rattle.std.specs.Prelude.{Ok, Err}
+use Rattle.std.specs.Prelude.{Option, Ok, Err}
 use Rattle.answer.specs.declared.Refusal.TheVariants.{SingularMatrix}
 use Rattle.answer.specs.Answer.{Answer}
 use Rattle.algebra.specs.Matrix.{Vector, Matrix}

@@ -1,6 +1,5 @@
 -- What holds of tracking, for all settings and readings: the laws that `track_laws` promises. Definitions only.
-use Rattle.std.specs.Prelude.{ℕ, ◌<◌, ◌≡◌, ◌↔◌, length, drop, Float, Ok, Err}
-use Rattle.std.proofs.Math.Option.{Option}
+use Rattle.std.specs.Prelude.{ℕ, ◌<◌, ◌≡◌, ◌↔◌, length, drop, Float, Option, Ok, Err}
 use mathlib.Core.List.{List, ◌∷◌, zip_with}
 use Rattle.answer.specs.declared.Refusal.TheVariants.{SingularMatrix}
 use Rattle.filtering.specs.Filter.{Estimate}

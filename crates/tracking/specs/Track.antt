@@ -1,7 +1,6 @@
 -- A bus's readings filtered and smoothed: the middle of the depot sheet. Definitions only.
 -- The rules are for any motion M and sensor Y, of any sizes; `track` is the tracker of position and speed.
-use Rattle.std.specs.Prelude.{ℕ, suc, Bool, true, false, cond, replicate, Float, Ok, Err}
-use Rattle.std.proofs.Math.Option.{Option, none, some}
+use Rattle.std.specs.Prelude.{ℕ, suc, Bool, true, false, cond, replicate, Float, Option, None, Some, Ok, Err}
 use mathlib.Core.List.{List, [], ◌∷◌, map, zip_with}
 use Rattle.scalar.specs.Number.{+0}
 use Rattle.answer.specs.Answer.{Answer, mapped}
@@ -48,8 +47,8 @@ moved M e = final e (predict M (replicate M.i +0) e).left
 
 -- an update if there is a reading
 unfoldable pub corrected : Sensor Matrix → Option Vector → Estimate → Answer Estimate
-corrected Y none e = Ok e
-corrected Y (some z) e = let o = update Y z e in mapped (λ y. final e o.left) o.told
+corrected Y None e = Ok e
+corrected Y (Some z) e = let o = update Y z e in mapped (λ y. final e o.left) o.told
 
 -- a reading is one predict, then an update if there is a reading
 unfoldable pub filter : Motion → Sensor Matrix → Option Vector → Estimate → Answer Estimate
@@ -72,21 +71,21 @@ rejects n s = elim (inv n s.predicted.covariance) [ Err k ↦ true | Ok W ↦ fa
 
 -- the place found among later slots, counted from the slot before them; else that slot's own, if it is rejected
 abbrev pub or_here : Bool → Option ℕ → Option ℕ
-or_here here (some k) = some (suc k)
-or_here here none = cond here (some 0) none
+or_here here (Some k) = Some (suc k)
+or_here here None = cond here (Some 0) None
 
 -- the latest slot before the last that is rejected, from 0
 unfoldable pub latest : ℕ → List Slot → Option ℕ
-latest n [] = none
-latest n (s ∷ []) = none
+latest n [] = None
+latest n (s ∷ []) = None
 latest n (s ∷ t ∷ l) = or_here (rejects n s) (latest n (t ∷ l))
 
 -- ---- all readings, filtered and then smoothed
 
 -- rejected at slot k; where no slot is rejected and smoothing is refused, there is no slot, and nothing to smooth
 abbrev pub refused_at : {R : Type 0} → Option ℕ → Tracked (List R)
-refused_at (some k) = rejected k
-refused_at none = tracked []
+refused_at (Some k) = rejected k
+refused_at None = tracked []
 
 -- the slots of the duty d, smoothed: f of each slot and its smoothed pair
 unfoldable pub smoothed_by : {R : Type 0} → (Slot → Estimate → R) → Duty → Tracked (List R)
@@ -98,8 +97,8 @@ duty_of M l = record { size = M.n; transition = M.a; slots = l }
 -- ---- the tracker of position and speed; a reading is in metres, or there is none
 
 abbrev pub measured : Option Float → Option Vector
-measured none = none
-measured (some z) = some (z ∷ [])
+measured None = None
+measured (Some z) = Some (z ∷ [])
 
 abbrev pub position : Estimate → Float
 position e = at e.state 0

@@ -1,17 +1,8 @@
 -- The digits are read one by one, each beside ten times what was read.
 use Rattle.std.proofs.Common.{◌≡◌, get_or, arith, sym, ◌∙◌, true}
 use Rattle.sheets.specs.Field.{is_digit}
-use Rattle.sheets.proofs.Reading.{left-start, left_bad, left_step, left_end, digit_small, small-step, small-fits}
+use Rattle.sheets.proofs.Reading.{left_bad, left_step, left_end, digit_small, small-step, small-fits}
 use Rattle.sheet_text.proofs.read_digits.Goals as goal
-use Rattle.sheet_text.proofs.read_digits.Goals.{else-first-eq48-via-then-first-eq48+else-not-is_empty, else-first-eq48-via-else-first-eq48}
-
-pub loop-b-init : goal.loop-b-init
-loop-b-init c =
-    let cases = c.in_ok-first.ensures.cases in (
-      omega arith,
-      left-start c.args.digits.now (omega (arith, cases.1)) λ z.
-          elim c.else-first-eq48.branch [ else-first-eq48-via-then-first-eq48+else-not-is_empty w ↦ search (arith, cases.1) | else-first-eq48-via-else-first-eq48 w ↦ absurd (w.if-first-eq48.false (rw cases.0 at z)) ],
-    )
 
 pub returns-then-not-is_ascii_digit : goal.returns-then-not-is_ascii_digit
 returns-then-not-is_ascii_digit c =

@@ -4,9 +4,8 @@ use lib.Ieee.{Float}
 use Rattle.std.specs.Prelude.{Option, Ok}
 use Rattle.answer.specs.Answer.{mapped}
 use Rattle.road.specs.Road.{sensor_of, estimate_of, corrected_of}
-use Rattle.small_inverse.proofs.Exits.{exit}
-use Rattle.tracking.specs.Track.{corrected}
-use Rattle.tracker.specs.Tracked.{measured_of}
+use Rattle.answer.proofs.Exits.{exit}
+use Rattle.tracking.specs.Track.{corrected, measured}
 use Rattle.tracker.proofs.Readings.{updated}
 use Rattle.tracker.proofs.corrected.Goals as goal
 
@@ -17,7 +16,7 @@ returns-in_err-found-in-Some c =
     ap (mapped estimate_of) (exit c.from_residual.ensures.1)
     ∙ sym (ap (mapped (corrected_of Y e)) c.in_err-found-in-Some.was)
     ∙ updated Y c.in-Some.z e _ c.innovation.ensures
-    ∙ ap (λ (z : Option Float). corrected Y (measured_of z) e) (sym c.in-Some.is)
+    ∙ ap (λ (z : Option Float). corrected Y (measured z) e) (sym c.in-Some.is)
 
 pub returns-in_ok-found-in-Some : goal.returns-in_ok-found-in-Some
 returns-in_ok-found-in-Some c =
@@ -26,8 +25,8 @@ returns-in_ok-found-in-Some c =
     ap Ok c.corrected.ensures
     ∙ sym (ap (mapped (corrected_of Y e)) c.in_ok-found-in-Some.was)
     ∙ updated Y c.in-Some.z e _ c.innovation.ensures
-    ∙ ap (λ (z : Option Float). corrected Y (measured_of z) e) (sym c.in-Some.is)
+    ∙ ap (λ (z : Option Float). corrected Y (measured z) e) (sym c.in-Some.is)
 
 pub returns-in-None : goal.returns-in-None
 unfolding corrected
-returns-in-None c = ap (λ (z : Option Float). corrected (sensor_of c.args.sensor) (measured_of z) (estimate_of c.args.e)) (sym c.in-None.is)
+returns-in-None c = ap (λ (z : Option Float). corrected (sensor_of c.args.sensor) (measured z) (estimate_of c.args.e)) (sym c.in-None.is)

@@ -1,7 +1,6 @@
 -- `smoothed` meets its contract: by what the call of `smooth` tells.
-use mathlib.Core.Path.{sym, ap, ◌∙◌}
+use mathlib.Core.Path.{sym, ◌∙◌}
 use native.Mathlib.Omega.{arith}
-use Rattle.tracker.specs.Tracked.{option_of}
 use Rattle.tracker.proofs.Told.{told-done, told-refused}
 use Rattle.tracker.proofs.smoothed.Goals as goal
 
@@ -13,9 +12,9 @@ returns-in-Ok c =
 pub returns-in-Some : goal.returns-in-Some
 returns-in-Some c =
     let a = c.args in
-    told-refused a.slots a.stored a.a (omega arith) (omega arith) c.smooth.ensures c.in-Err.is (sym (ap option_of c.in-Some.is) ∙ c.latest_rejected.ensures)
+    told-refused a.slots a.stored a.a (omega arith) (omega arith) c.smooth.ensures c.in-Err.is (sym c.in-Some.is ∙ c.latest_rejected.ensures)
 
 pub returns-in-None : goal.returns-in-None
 returns-in-None c =
     let a = c.args in
-    told-refused a.slots a.stored a.a (omega arith) (omega arith) c.smooth.ensures c.in-Err.is (sym (ap option_of c.in-None.is) ∙ c.latest_rejected.ensures)
+    told-refused a.slots a.stored a.a (omega arith) (omega arith) c.smooth.ensures c.in-Err.is (sym c.in-None.is ∙ c.latest_rejected.ensures)

@@ -1,19 +1,16 @@
 -- Position after position; the first without whole metres is refused with 9.
-use Rattle.std.proofs.Common.{sym, ◌∙◌, ap, rules, w64}
+use Rattle.std.proofs.Common.{sym, ◌∙◌, rules, w64}
 use mir.Val.{SFits}
 use lib.Ieee.{nan}
-use Rattle.std.specs.Prelude.{Err}
 use Rattle.std.proofs.lemmas.Int.{to_z-of_z}
-use Rattle.std.proofs.lemmas.Result.{err_from_is_err_and}
-use Rattle.sheet_reader.proofs.Fill.{none_of, some_of}
+use Rattle.sheet_reader.proofs.Fill.{stopped, some_of}
 use Rattle.sheet.proofs.Metres.{marks_all, marks_bad, marks_more}
 use Rattle.sheet.proofs.lines.all_metres.Goals as goal
 
 pub returns-in_err-ok_or : goal.returns-in_err-ok_or
 returns-in_err-ok_or c =
-    let p = err_from_is_err_and c.from_residual.result c.from_residual.ensures.1 in
-    let q = none_of c.whole_metres.result _ c.in_err-ok_or.field-0.0 c.in_err-ok_or.ensures.value in
-    p.1 ∙ ap Err (p.2 ∙ q.1) ∙ sym (marks_bad c.loop-i.invariant nan c.loop-i-test.true (sym c.whole_metres.ensures ∙ q.0))
+    let (o, r) = stopped c.whole_metres.result _ c.from_residual.result c.in_err-ok_or.ensures.value c.from_residual.ensures.1 in
+    rw r (sym (marks_bad c.loop-i.invariant nan c.loop-i-test.true (sym c.whole_metres.ensures ∙ o)))
 
 pub loop-i-preserved : goal.loop-i-preserved
 loop-i-preserved c =

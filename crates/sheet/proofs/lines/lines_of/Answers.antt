@@ -15,4 +15,4 @@ returns-in_ok-all_metres-in-Ok c =
     lines_good c.args.s.now c.in_ok-sheet.sheet c.in_ok-sheet.ensures c.in-Ok.positions c.in-Ok.ensures.positions c.in_ok-all_metres-in-Ok.field-0 m
 
 pub returns-in-Err : goal.returns-in-Err
-returns-in-Err c = rw c.len.ensures.value (lines_err c.args.s.now c.in_ok-sheet.sheet c.in_ok-sheet.ensures c.in-Err.k c.in-Err.ensures.positions)
+returns-in-Err c = rw c.len.ensures.value (lines_err c.args.s.now c.in_ok-sheet.sheet c.in_ok-sheet.ensures c.in-Err.rejected c.in-Err.ensures.positions)

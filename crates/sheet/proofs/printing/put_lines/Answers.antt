@@ -1,8 +1,7 @@
 -- Line after line, 25 bytes each.
-use Rattle.std.proofs.Common.{◌≡◌, ◌+◌, ◌≤◌, ◌++◌, length, get_or, ◌∙◌, arith, rules, w64, pos, ◌+ℤ◌, to_z, of_z, append_assoc, append-nil}
+use Rattle.std.proofs.Common.{◌≡◌, ◌+◌, ◌++◌, get_or, ◌∙◌, arith, rules, w64, pos, ◌+ℤ◌, to_z, of_z, append_assoc, append-nil}
 use mir.Val.{SFits}
 use lib.ListN.{length-append}
-use lib.Seq.{take_all}
 use Rattle.std.proofs.lemmas.Int.{ints, to_z-of_z}
 use Rattle.sheets.specs.Output.{reading_text}
 use Rattle.sheets.specs.Stage.{stage_of}
@@ -35,8 +34,3 @@ loop-i-preserved c =
       rw (d, length-append, r) (omega arith),
       omega arith,
     )
-
-pub returns : goal.returns
-returns c =
-    let n : length c.args.metres.now ≤ c.loop-i.i = c.loop-i-test.false in
-    c.loop-i.invariant.0 ∙ rw (take_all c.loop-i.i c.args.metres.now n)

@@ -1,20 +1,17 @@
 -- Line 1 is read, and then its numbers.
-use Rattle.std.proofs.Common.{◌≡◌, sym, ◌∙◌, ap, rules, w64}
+use Rattle.std.proofs.Common.{◌≡◌, sym, ◌∙◌, rules, w64}
 use mir.Val.{SFits}
-use Rattle.std.specs.Prelude.{Err}
-use Rattle.std.proofs.lemmas.Result.{err_from_is_err_and}
 use Rattle.std.proofs.lemmas.Int.{to_z-of_z}
 use Rattle.sheets.specs.Line.{nth}
 use Rattle.sheet_reader.specs.Held.{head_in}
 use Rattle.sheet_reader.proofs.HeadLine.{head_bad, head_read, head_few}
-use Rattle.sheet_reader.proofs.Fill.{none_of, some_of}
+use Rattle.sheet_reader.proofs.Fill.{stopped, some_of}
 use Rattle.sheet_reader.proofs.head.read_head.Goals as goal
 
 pub returns-in_err-step-clause-read : goal.returns-in_err-step-clause-read
 returns-in_err-step-clause-read c =
-    let p = err_from_is_err_and c.from_residual.result c.from_residual.ensures.1 in
-    let q = none_of c.line.result c.at_line.result c.in_err-step.field-0.0 c.in_err-step.ensures.value in
-    p.1 ∙ ap Err (p.2 ∙ q.1 ∙ c.at_line.ensures) ∙ sym (head_bad c.args.s.now (sym c.line.ensures ∙ q.0))
+    let (o, r) = stopped c.line.result c.at_line.result c.from_residual.result c.in_err-step.ensures.value c.from_residual.ensures.1 in
+    rw (r, c.at_line.ensures) (sym (head_bad c.args.s.now (sym c.line.ensures ∙ o)))
 
 pub returns-clause-read : goal.returns-clause-read
 returns-clause-read c =

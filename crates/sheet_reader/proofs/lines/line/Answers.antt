@@ -1,14 +1,9 @@
 -- A line's fields are read one by one.
-use Rattle.std.proofs.Common.{sym, ◌∙◌, arith, ltb-true, rules, w64, ◌+◌, ◌*◌, length}
+use Rattle.std.proofs.Common.{sym, ◌∙◌, arith, rules, w64}
 use mir.Val.{SFits}
 use Rattle.std.proofs.lemmas.Int.{to_z-of_z}
-use Rattle.sheet_reader.proofs.Line.{reads_none, reads_bad, reads_more, reads_all}
+use Rattle.sheet_reader.proofs.Line.{reads_bad, reads_more, reads_all}
 use Rattle.sheet_reader.proofs.lines.line.Goals as goal
-
-pub loop-k-init : goal.loop-k-init
-loop-k-init g c =
-    let l = c.in_ok-get.ensures.lookup in
-    reads_none g.row.K c.args.at c.args.s.now (ltb-true (c.args.at + 8 * g.row.K) (length c.args.s.now) (sym l.0)) (sym (l.3.1 0) ∙ c.if-branch-ne10.false)
 
 pub returns-in_err-number : goal.returns-in_err-number
 returns-in_err-number g c = c.from_residual-in_err-number.ensures ∙ reads_bad c.loop-k.invariant c.loop-k-test.true (sym c.in_err-number.ensures)
