@@ -12,16 +12,25 @@ pub struct Page<'a> {
 
 impl<'a> Page<'a> {
     pub fn new(bytes: &'a mut [u8]) -> Page<'a>
-        ensures { result.bytes.now ≡ bytes.old }
+        ensures bytes { result.bytes.now ≡ bytes.old }
+        ensures empty { result.len ≡ 0 }
     {
         Page { bytes, len: 0 }
     }
 
     // How many bytes are written.
     pub fn len(&self) -> usize
-        ensures { result ≤ length self.now.bytes.now }
+        ensures count { result ≡ self.now.len }
+        ensures within { result ≤ length self.now.bytes.now }
     {
         self.len
+    }
+
+    // How many bytes there is room for in all.
+    pub fn room(&self) -> usize
+        ensures { result ≡ length self.now.bytes.now }
+    {
+        self.bytes.len()
     }
 
     fn put(&mut self, b: u8) -> fmt::Result {

@@ -110,5 +110,6 @@ pub fn draw(page: &mut [u8], duty: Duty) -> usize
     };
     // An error says that the text had no room.
     let _ = body(&mut page, shown);
+    // No contract of writing says that the page keeps its length.
     page.len().min(room)
 }

@@ -4,13 +4,9 @@ ghost use Rattle.std.specs.Prelude.{◌≤◌, length};
 use crate::{Duty, START, Slot};
 use chart::frame::Frame;
 
-// The lower and the higher of a slot's places.
-fn lower(slot: &Slot) -> u32 {
-    slot.smoothed.min(slot.reading.unwrap_or(slot.smoothed))
-}
-
-fn higher(slot: &Slot) -> u32 {
-    slot.smoothed.max(slot.reading.unwrap_or(slot.smoothed))
+// A slot's places: the smoothed one, and the reading; that place again where none was taken.
+fn places(slot: &Slot) -> [u32; 2] {
+    [slot.smoothed, slot.reading.unwrap_or(slot.smoothed)]
 }
 
 // The seconds of one step past the last reading.
@@ -24,8 +20,8 @@ fn seconds(count: usize, step: u32) -> u32
 pub(crate) fn frame_of(d: Duty) -> Frame
     requires { length d.slots.now ≤ 64 }
 {
-    let low = d.slots.iter().map(lower).min().unwrap_or(START);
-    let high = d.slots.iter().map(higher).max().unwrap_or(START);
+    let low = d.slots.iter().flat_map(places).min().unwrap_or(START);
+    let high = d.slots.iter().flat_map(places).max().unwrap_or(START);
     let margin = high.saturating_sub(low) / 20 + 200;
     Frame {
         low: low.saturating_sub(margin),

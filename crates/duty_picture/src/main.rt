@@ -9,10 +9,8 @@ use std::io;
 // The picture of a sheet, printed.
 fn print_picture(rt: &impl Print, input: &[u8]) -> io::Result<()> {
     let mut output = [0u8; 32768];
-    match picture(input, &mut output[..]) {
-        Ok(count) => rt.write_all(&output[..count]),
-        Err(_) => Ok(()),
-    }
+    let count = picture(input, &mut output[..]).unwrap();
+    rt.write_all(&output[..count])
 }
 
 fn main(rt: HostRuntime) -> io::Result<()> {

@@ -57,12 +57,12 @@ pub(crate) fn draw_sheet(sheet: &[u8], page: &mut [u8]) -> usize
         smoothed: 0,
         moved: None,
     }; 64];
-    for (i, slot) in slots.iter_mut().enumerate() {
-        slot.smoothed = place(positions.smoothed[i]);
-        slot.moved = moved(ends, positions.filtered[i], positions.smoothed[i]);
-    }
-    for (slot, reading) in slots.iter_mut().zip(sheet.readings.as_slice()) {
+    let places = positions.filtered.iter().zip(&positions.smoothed);
+    let found = sheet.readings.as_slice().iter().zip(places);
+    for (slot, (reading, (filtered, smoothed))) in slots.iter_mut().zip(found) {
         slot.reading = reading.map(place_of);
+        slot.smoothed = place(*smoothed);
+        slot.moved = moved(ends, *filtered, *smoothed);
     }
     draw(
         page,
