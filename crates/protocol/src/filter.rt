@@ -1,12 +1,13 @@
 // The words of a call on a filter: its sizes, its parts as they lie in its slice, and steps, of a letter and numbers each; and how
 // the calls on a filter of any kind are replayed.
-ghost use Rattle.std.specs.Prelude.{◌≡◌, ◌<◌, ◌≤◌, length, IfSome, IfErr};
+ghost use Rattle.std.specs.Prelude.{◌≡◌, ◌<◌, ◌≤◌, length, IfSome};
 ghost use Rattle.protocol.specs.Left.{left};
 
 use crate::given::Answer;
 use crate::names::Filtering;
 use crate::values::Values;
 use crate::words::cells;
+use answer::Refusal;
 
 #[derive(Clone, Copy, Debug, PartialEq, Eq)]
 pub enum Letter {
@@ -49,9 +50,7 @@ impl Sizes {
     pub fn read(words: &mut Values<'_>) -> Option<Sizes>
         ensures { length words.new.rest.now ≤ length words.old.rest.now }
     {
-        let n = words.size()?;
-        let m = words.size()?;
-        let i = words.size()?;
+        let [n, m, i] = words.sizes()?;
         Some(Sizes { n, m, i })
     }
 
@@ -153,9 +152,15 @@ impl Letter {
 
 // A kind of filter: its calls through the C functions, on its slice. These take the sizes beside the slice, and so do the methods.
 pub trait Filter {
+    // Whether the answer has the square matrix that the filter leaves before the vector.
+    const MATRIX_FIRST: bool = false;
+
     // How many numbers r has.
     fn noise(s: Sizes) -> usize
-        ensures { result ≤ 16 };
+        ensures { result ≤ 16 }
+    {
+        cells(s.m, s.m)
+    }
 
     // The filter of the words, new or as its slice holds it; none, if they make no call.
     fn make(
@@ -163,21 +168,39 @@ pub trait Filter {
         s: Sizes,
         words: &mut Values<'_>,
         filter: &mut [f64],
-    ) -> Option<Result<(), u8>>
-        ensures { IfSome result (λ made. IfErr made (λ refusal. 0 < refusal)) };
+    ) -> Option<Result<(), Refusal>>;
 
-    // Takes the step, and answers what it tells.
-    fn take<'a>(
+    // Takes the step, and writes what it tells; none, if the filter has no such step.
+    fn take(
         step: Step<'_>,
         s: Sizes,
         filter: &mut [f64],
-        given: Answer<'a>,
-    ) -> Option<Answer<'a>>
-        ensures { IfSome result (λ a. left a < left given.entry) };
+        told: &mut [f64],
+    ) -> Option<Result<(), Refusal>>;
+
+    // Writes the vector and the square matrix that the filter leaves.
+    fn estimate(
+        s: Sizes,
+        filter: &[f64],
+        vector: &mut [f64],
+        matrix: &mut [f64],
+    ) -> Result<(), Refusal>;
 
     // Answers what the filter leaves.
     fn left<'a>(s: Sizes, filter: &[f64], given: Answer<'a>) -> Option<Answer<'a>>
-        ensures { IfSome result (λ a. left a ≤ left given.entry) };
+        ensures { IfSome result (λ a. left a ≤ left given.entry) }
+    {
+        let mut vector = [0.0; 16];
+        let mut matrix = [0.0; 16];
+        let x = &mut vector[..s.state()];
+        let p = &mut matrix[..s.square()];
+        Self::estimate(s, filter, x, p).ok()?;
+        if Self::MATRIX_FIRST {
+            given.numbers(p)?.numbers(x)
+        } else {
+            given.numbers(x)?.numbers(p)
+        }
+    }
 
     fn length(s: Sizes) -> usize
         ensures { result ≤ 112 }
@@ -195,8 +218,11 @@ fn taken<'a, F: Filter>(
 ) -> Option<Answer<'a>>
     ensures { IfSome result (λ a. left a < left given.entry) }
 {
-    let told = F::take(step, s, filter, given)?;
-    F::left(s, filter, told.text(b"|")?)
+    let mut out = [0.0; 16];
+    let told = &mut out[..step.told_cells(s)];
+    let outcome = F::take(step, s, filter, told)?;
+    let left = given.told(outcome, told)?;
+    F::left(s, filter, left.text(b"|")?)
 }
 
 // The first step, and the others to the end of the words, each behind its letter.
@@ -210,6 +236,7 @@ fn steps<'a, F: Filter>(
     ensures { IfSome result (λ a. left a < left given.entry) }
 {
     let mut left = taken::<F>(first, s, filter, given)?;
+    // A turn takes as many words as its step has.
     while !words.is_end() {
         let letter = words.letter()?;
         let next = letter.step(s, words)?;
@@ -229,7 +256,7 @@ pub fn replay<'a, F: Filter>(
     ensures { IfSome result (λ a. left a < left given.entry) }
 {
     if let Err(refusal) = F::make(op == Filtering::New, s, words, filter)? {
-        return given.told(Err(refusal));
+        return given.told(Err(refusal), &[]);
     }
     let first = match op {
         Filtering::New | Filtering::Held => Step::Nothing,

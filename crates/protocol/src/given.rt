@@ -1,21 +1,15 @@
 // What is left of the answer given. Each method takes the next word and gives what is left after it; where another word stands
 // there it gives none, so that a lost answer stays lost.
-ghost use Rattle.std.specs.Prelude.{◌≡◌, ◌↔◌, ◌<◌, ◌≤◌, IsTrue, IsNone, IfSome, IfOk, IfErr};
+ghost use Rattle.std.specs.Prelude.{◌≡◌, ◌↔◌, ◌<◌, ◌≤◌, IsTrue, IsNone, IfSome};
 ghost use Rattle.protocol.specs.Left.{left};
 
-use crate::words::{Value, cut, to_bits};
+use crate::words::{Value, cut};
+use answer::Refusal;
+use std::num::f64_to_bits_with_nan;
 
 #[derive(Drop)]
 pub struct Answer<'a> {
     rest: Option<&'a [u8]>,
-}
-
-// What C's function leaves, or the number of its refusal.
-pub fn outcome<T: Drop>(status: u8, left: T) -> Result<T, u8>
-    ensures ok { IfOk result (λ x. (status ≡ 0) × (x ≡ left)) }
-    ensures err { IfErr result (λ refusal. (0 < refusal) × (refusal ≡ status)) }
-{
-    if status == 0 { Ok(left) } else { Err(status) }
 }
 
 impl<'a> Answer<'a> {
@@ -50,11 +44,20 @@ impl<'a> Answer<'a> {
         if word == text { Some(rest) } else { None }
     }
 
-    // A count, or a refusal's number.
     pub fn count(self, n: u64) -> Option<Answer<'a>>
         ensures { IfSome result (λ a. left a < left self.entry) }
     {
         self.value(Value::Whole(n))
+    }
+
+    // 0, or the refusal's number.
+    pub fn status(self, outcome: Result<(), Refusal>) -> Option<Answer<'a>>
+        ensures { IfSome result (λ a. left a < left self.entry) }
+    {
+        match outcome {
+            Ok(()) => self.count(0),
+            Err(refusal) => self.count(u64::from(u8::from(refusal))),
+        }
     }
 
     pub fn numbers(self, found: &[f64]) -> Option<Answer<'a>>
@@ -62,18 +65,18 @@ impl<'a> Answer<'a> {
     {
         let mut left = self;
         for x in found {
-            left = left.value(Value::Number(to_bits(*x)))?;
+            left = left.value(Value::Number(f64_to_bits_with_nan(*x)))?;
         }
         Some(left)
     }
 
-    // `ok` and the numbers, or `refused` and the refusal's number.
-    pub fn told(self, outcome: Result<&[f64], u8>) -> Option<Answer<'a>>
+    // `ok` and the numbers found, or `refused` and the refusal's number.
+    pub fn told(self, outcome: Result<(), Refusal>, found: &[f64]) -> Option<Answer<'a>>
         ensures { IfSome result (λ a. left a < left self.entry) }
     {
         match outcome {
-            Ok(found) => self.text(b"ok")?.numbers(found),
-            Err(refusal) => self.text(b"refused")?.count(refusal as u64),
+            Ok(()) => self.text(b"ok")?.numbers(found),
+            Err(_) => self.text(b"refused")?.status(outcome),
         }
     }
 

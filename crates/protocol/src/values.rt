@@ -1,11 +1,11 @@
 // What is left of the values of a call, from which each method takes the next.
-ghost use Rattle.std.specs.Prelude.{◌≡◌, ◌↔◌, ◌≤◌, IsTrue, length, drop, IfSome, slice_get};
+ghost use Rattle.std.specs.Prelude.{◌≡◌, ◌↔◌, ◌≤◌, IsTrue, length, map, take, drop, IfSome, slice_get};
 ghost use Rattle.std.specs.Option.{option_map};
 ghost use Rattle.std.specs.Float.{binary64};
 ghost use Rattle.std.specs.Float.Ieee.{to_bits};
 
 use crate::filter::Letter;
-use crate::words::to_bits;
+use std::num::f64_to_bits_with_nan;
 
 #[derive(Clone, Copy)]
 pub struct Values<'a> {
@@ -32,7 +32,7 @@ impl<'a> Values<'a> {
         ensures value { result ≡ option_map (to_bits binary64) (slice_get self.old.rest.now 0) }
         ensures rest { self.new.rest.now ≡ drop 1 self.old.rest.now }
     {
-        Some(to_bits(self.number()?))
+        Some(f64_to_bits_with_nan(self.number()?))
     }
 
     pub fn size(&mut self) -> Option<usize>
@@ -40,6 +40,14 @@ impl<'a> Values<'a> {
         ensures rest { self.new.rest.now ≡ drop 1 self.old.rest.now }
     {
         Some(self.whole()? as usize)
+    }
+
+    // The next three.
+    pub fn sizes(&mut self) -> Option<[usize; 3]>
+        ensures value { IfSome result (λ sizes. sizes ≡ map (to_bits binary64) (take 3 self.old.rest.now)) }
+        ensures rest { self.new.rest.now ≡ drop 3 self.old.rest.now }
+    {
+        Some([self.size()?, self.size()?, self.size()?])
     }
 
     // A count; all that is above 999 is 999.

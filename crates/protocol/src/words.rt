@@ -1,14 +1,12 @@
 // The words of a line and the value of each. A call's values are kept as the f64s with those bits, so that the C functions take
 // their numbers as slices of them.
 ghost use Rattle.std.specs.Prelude.{◌≡◌, ◌+◌, ◌<◌, ◌≤◌, length, IfSome};
-ghost use Rattle.std.specs.Float.{binary64};
-ghost use Rattle.std.specs.Float.Ieee.{to_bits};
 
 use crate::filter::Letter;
+use std::num::f64_from_bits_with_nan;
 
-const SIGN: u64 = 0x8000_0000_0000_0000;
-
-const INFINITY: u64 = 0x7ff0_0000_0000_0000;
+// The sign bit of a word's value, and the bits of every NaN.
+pub const SIGN: u64 = 0x8000_0000_0000_0000;
 
 const NAN: u64 = 0x7ff8_0000_0000_0000;
 
@@ -31,63 +29,40 @@ pub fn cut(text: &[u8], stop: u8) -> (&[u8], Option<&[u8]>)
     }
 }
 
-// The number with these bits; a NaN whatever its payload.
-fn from_bits(bits: u64) -> f64 {
-    let magnitude = bits % SIGN;
-    if INFINITY < magnitude {
-        return 0.0 / 0.0;
-    }
-    let x = f64::from_bits(magnitude);
-    if bits < SIGN { x } else { -x }
-}
-
-// A number's bits; the same for every NaN.
-pub(crate) fn to_bits(x: f64) -> u64
-    ensures { result ≡ to_bits binary64 x }
+// A digit's value, if it is below the base; a letter is a digit in upper case alone.
+fn digit(b: u8, base: u32) -> Option<u32>
+    requires { (2 ≤ base) × (base ≤ 36) }
+    ensures { IfSome result (λ d. d < base) }
 {
-    if x != x { NAN } else { f64::to_bits(x) }
+    if b.is_ascii_lowercase() {
+        None
+    } else {
+        char::from(b).to_digit(base)
+    }
 }
 
-// A digit's value, if it is below the radix.
-fn digit(b: u8, radix: u64) -> Option<u64>
-    ensures { IfSome result (λ d. d < radix) }
+// The number of a word's digits in that base, modulo 2^64.
+fn whole(word: &[u8], base: u32) -> Option<u64>
+    requires { (2 ≤ base) × (base ≤ 36) }
 {
-    let d = match b {
-        b'0'..=b'9' => (b - b'0') as u64,
-        b'A'..=b'F' => (b - b'A') as u64 + 10,
-        _ => return None,
-    };
-    if d < radix { Some(d) } else { None }
-}
-
-// Of more than 16 digits the first are dropped.
-fn hexadecimal(word: &[u8]) -> Option<u64> {
-    let mut bits = 0;
-    for b in word {
-        bits = bits % 0x1000_0000_0000_0000 * 16 + digit(*b, 16)?;
-    }
-    Some(bits)
-}
-
-// Of more than 19 digits the first are dropped.
-fn decimal(word: &[u8]) -> Option<u64> {
-    let mut n = 0;
-    for b in word {
-        n = n % 1_000_000_000_000_000_000 * 10 + digit(*b, 10)?;
-    }
-    Some(n)
+    word.iter().try_fold(0_u64, |n, b| {
+        Some(
+            n.wrapping_mul(u64::from(base))
+                .wrapping_add(u64::from(digit(*b, base)?)),
+        )
+    })
 }
 
 impl Value {
     // The value of a word, if it is one of the protocol's calls.
     pub(crate) fn of(word: &[u8]) -> Option<Value> {
         if word.len() == 16 {
-            return Some(Value::Number(hexadecimal(word)?));
+            return Some(Value::Number(whole(word, 16)?));
         }
         match word {
             b"nan" => Some(Value::Number(NAN)),
-            [b'0'..=b'9', ..] => Some(Value::Whole(decimal(word)?)),
-            [b'-', _, ..] => Some(Value::Whole(SIGN + decimal(&word[1..])? % SIGN)),
+            [b'0'..=b'9', ..] => Some(Value::Whole(whole(word, 10)?)),
+            [b'-', _, ..] => Some(Value::Whole(SIGN + whole(&word[1..], 10)? % SIGN)),
             [letter] => Some(Value::Letter(Letter::try_from(*letter).ok()?)),
             _ => None,
         }
@@ -106,10 +81,11 @@ impl Value {
 pub fn read_values(line: &[u8], values: &mut [f64]) -> Option<usize>
     ensures { IfSome result (λ count. count ≤ length values.new) }
 {
+    // Counted here, since the count is what is handed back.
     let mut count = 0;
     for word in line.split(|b| *b == b' ').skip(1) {
         let value = Value::of(word)?;
-        *values.get_mut(count)? = from_bits(value.bits());
+        *values.get_mut(count)? = f64_from_bits_with_nan(value.bits());
         count += 1;
     }
     Some(count)

@@ -96,6 +96,7 @@ fn cut_line(list: &[u8]) -> (&[u8], &[u8])
 fn replay(rt: &impl Print, list: &[u8], tally: &mut Tally) -> io::Result<()> {
     let mut rest = list;
     let mut line = 1;
+    // A turn takes two lines.
     while !rest.is_empty() {
         let (call, after) = cut_line(rest);
         let (given, next) = cut_line(after);

@@ -4,11 +4,10 @@ ghost use Rattle.std.specs.Prelude.{◌<◌, IfSome};
 ghost use Rattle.protocol.specs.Left.{left};
 
 use estimators::numbers;
-use protocol::given::{Answer, outcome};
+use protocol::given::Answer;
 use protocol::names::Scalar;
 use protocol::values::Values;
-
-const SIGN: u64 = 0x8000_0000_0000_0000;
+use protocol::words::SIGN;
 
 // The whole number of 32 bits with that magnitude and sign bit; 0 for one outside.
 fn int_of(bits: u64) -> i32 {
@@ -21,8 +20,8 @@ fn consts<'a>(given: Answer<'a>) -> Option<Answer<'a>>
     ensures { IfSome result (λ a. left a < left given.entry) }
 {
     let mut all = [0.0; 6];
-    let status = numbers::estimators_scalar_constants(&mut all);
-    let left = given.told(outcome(status, &all[..]))?;
+    let outcome = numbers::estimators_scalar_constants(&mut all);
+    let left = given.told(outcome, &all)?;
     left.numbers(&[all[5] * 1000000.0])
 }
 
@@ -59,5 +58,5 @@ pub fn answer<'a>(op: Scalar, words: Values<'_>, given: Answer<'a>) -> Option<An
         return if words.is_end() { consts(given) } else { None };
     }
     let x = result(op, words)?;
-    given.told(Ok(&[x]))
+    given.told(Ok(()), &[x])
 }

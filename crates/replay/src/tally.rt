@@ -26,7 +26,7 @@ impl Row {
     fn with(self, is_good: bool) -> Row {
         Row {
             calls: self.calls.wrapping_add(1),
-            agreed: self.agreed.wrapping_add(is_good as u64),
+            agreed: self.agreed.wrapping_add(u64::from(is_good)),
         }
     }
 

@@ -5,64 +5,56 @@
 ghost use Rattle.std.specs.Prelude.{◌<◌, IfSome};
 ghost use Rattle.protocol.specs.Left.{left};
 
+use answer::Refusal;
 use estimators::filters;
 use protocol::filter::{self, Filter, Model, Sizes, Step};
-use protocol::given::{Answer, outcome};
+use protocol::given::Answer;
 use protocol::names::Filtering;
 use protocol::values::Values;
-use protocol::words::cells;
 
 pub struct Linear;
 
 impl Filter for Linear {
-    fn noise(s: Sizes) -> usize {
-        cells(s.m, s.m)
-    }
-
     // Sizes alone can be refused, for which no answer has a word.
     fn make(
         _is_new: bool,
         s: Sizes,
         words: &mut Values<'_>,
         filter: &mut [f64],
-    ) -> Option<Result<(), u8>> {
+    ) -> Option<Result<(), Refusal>> {
         let k = Model::read(s, Self::noise(s), words)?;
         let x = words.take(s.state())?;
         let p = words.take(s.square())?;
-        let status = filters::estimators_kalman_new(
-            s.n, s.m, s.i, k.a, k.b, k.h, k.q, k.r, x, p, filter,
-        );
-        if status == 0 { Some(Ok(())) } else { None }
+        filters::estimators_kalman_new(s.n, s.m, s.i, k.a, k.b, k.h, k.q, k.r, x, p, filter).ok()?;
+        Some(Ok(()))
     }
 
-    fn take<'a>(
+    fn take(
         step: Step<'_>,
         s: Sizes,
         filter: &mut [f64],
-        given: Answer<'a>,
-    ) -> Option<Answer<'a>> {
-        let mut innovation = [0.0; 16];
-        let out = &mut innovation[..step.told_cells(s)];
-        let status = match step {
-            Step::Nothing => 0,
-            Step::Predict(u) => filters::estimators_kalman_predict(s.n, s.m, s.i, filter, u),
-            Step::Update(z) => filters::estimators_kalman_update(s.n, s.m, s.i, filter, z, out),
-            Step::Reset(x, p) => filters::estimators_kalman_reset(s.n, s.m, s.i, filter, x, p),
+        told: &mut [f64],
+    ) -> Option<Result<(), Refusal>> {
+        let Sizes { n, m, i } = s;
+        Some(match step {
+            Step::Nothing => Ok(()),
+            Step::Predict(u) => filters::estimators_kalman_predict(n, m, i, filter, u),
+            Step::Update(z) => filters::estimators_kalman_update(n, m, i, filter, z, told),
+            Step::Reset(x, p) => filters::estimators_kalman_reset(n, m, i, filter, x, p),
             Step::Covariance | Step::Fuse(_, _) | Step::State => return None,
-        };
-        given.told(outcome(status, &*out))
+        })
     }
 
     // Its state and its covariance.
-    fn left<'a>(s: Sizes, filter: &[f64], given: Answer<'a>) -> Option<Answer<'a>> {
-        let mut state = [0.0; 16];
-        let mut covariance = [0.0; 16];
-        let x = &mut state[..s.state()];
-        let p = &mut covariance[..s.square()];
-        let has_x = filters::estimators_kalman_state(s.n, s.m, s.i, filter, x);
-        let has_p = filters::estimators_kalman_covariance(s.n, s.m, s.i, filter, p);
-        let left = given.numbers(outcome(has_x, &*x).ok()?)?;
-        left.numbers(outcome(has_p, &*p).ok()?)
+    fn estimate(
+        s: Sizes,
+        filter: &[f64],
+        vector: &mut [f64],
+        matrix: &mut [f64],
+    ) -> Result<(), Refusal> {
+        let Sizes { n, m, i } = s;
+        filters::estimators_kalman_state(n, m, i, filter, vector)?;
+        filters::estimators_kalman_covariance(n, m, i, filter, matrix)
     }
 }
 
@@ -86,7 +78,7 @@ pub fn position_velocity<'a>(mut words: Values<'_>, given: Answer<'a>) -> Option
     if !words.is_end() {
         return None;
     }
-    let status = filters::estimators_kalman_position_velocity(dt, q, r, &mut filter);
-    let told = given.told(outcome(status, &filter[..13]))?;
+    let outcome = filters::estimators_kalman_position_velocity(dt, q, r, &mut filter);
+    let told = given.told(outcome, &filter[..13])?;
     Linear::left(Sizes { n: 2, m: 1, i: 1 }, &filter, told.text(b"|")?)
 }

@@ -5,8 +5,9 @@
 ghost use Rattle.std.specs.Prelude.{◌<◌, ◌≤◌, IfSome};
 ghost use Rattle.protocol.specs.Left.{left};
 
+use answer::Refusal;
 use estimators::imm;
-use protocol::given::{Answer, outcome};
+use protocol::given::Answer;
 use protocol::names::Mixing;
 use protocol::values::Values;
 use protocol::words::cells;
@@ -21,9 +22,7 @@ struct Sizes {
 
 impl Sizes {
     fn read(words: &mut Values<'_>) -> Option<Sizes> {
-        let n = words.size()?;
-        let m = words.size()?;
-        let k = words.size()?;
+        let [n, m, k] = words.sizes()?;
         Some(Sizes { n, m, k })
     }
 
@@ -85,8 +84,8 @@ fn left<'a>(s: Sizes, bank: &[f64], given: Answer<'a>) -> Option<Answer<'a>>
 
 // ---- operations, and what they tell
 
-// The bank of the words, and its status.
-fn make(s: Sizes, words: &mut Values<'_>, bank: &mut [f64]) -> Option<u8> {
+// The bank of the words.
+fn make(s: Sizes, words: &mut Values<'_>, bank: &mut [f64]) -> Option<Result<(), Refusal>> {
     let models = words.take(s.models())?;
     let transition = words.take(cells(s.k, s.k))?;
     let c = words.take(cells(s.m, s.n))?;
@@ -99,16 +98,18 @@ fn fused<'a>(s: Sizes, bank: &[f64], given: Answer<'a>) -> Option<Answer<'a>>
 {
     let mut out = [0.0; 16];
     let state = &mut out[..cells(s.n, 1)];
-    let status = imm::estimators_imm_fused_estimate(s.n, s.m, s.k, bank, state);
-    given.told(outcome(status, &*state))
+    given.told(
+        imm::estimators_imm_fused_estimate(s.n, s.m, s.k, bank, state),
+        state,
+    )
 }
 
 fn probability<'a>(s: Sizes, bank: &[f64], model: usize, given: Answer<'a>) -> Option<Answer<'a>>
     ensures { IfSome result (λ a. left a < left given.entry) }
 {
     let mut x = 0.0;
-    let status = imm::estimators_imm_model_probability(s.n, s.m, s.k, bank, model, &mut x);
-    given.told(outcome(status, &[x]))
+    let outcome = imm::estimators_imm_model_probability(s.n, s.m, s.k, bank, model, &mut x);
+    given.told(outcome, &[x])
 }
 
 fn told<'a>(
@@ -123,14 +124,15 @@ fn told<'a>(
     if op != Mixing::New {
         bank.copy_from_slice(words.take(bank.len())?);
     }
-    let status = match op {
+    let Sizes { n, m, k } = s;
+    let outcome = match op {
         Mixing::New => make(s, words, bank)?,
-        Mixing::Mix => imm::estimators_imm_mix_estimates(s.n, s.m, s.k, bank),
-        Mixing::Probabilities => imm::estimators_imm_update_probabilities(s.n, s.m, s.k, bank),
+        Mixing::Mix => imm::estimators_imm_mix_estimates(n, m, k, bank),
+        Mixing::Probabilities => imm::estimators_imm_update_probabilities(n, m, k, bank),
         Mixing::Fused => return fused(s, bank, given),
         Mixing::Probability => return probability(s, bank, words.size()?, given),
     };
-    given.told(outcome(status, &[]))
+    given.told(outcome, &[])
 }
 
 pub fn answer<'a>(op: Mixing, mut words: Values<'_>, given: Answer<'a>) -> Option<Answer<'a>>

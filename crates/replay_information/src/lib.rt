@@ -5,17 +5,23 @@
 ghost use Rattle.std.specs.Prelude.{◌<◌, IfSome};
 ghost use Rattle.protocol.specs.Left.{left};
 
+use answer::Refusal;
 use estimators::information;
 use protocol::filter::{self, Filter, Model, Sizes, Step};
-use protocol::given::{Answer, outcome};
+use protocol::given::Answer;
 use protocol::names::Filtering;
 use protocol::values::Values;
 use protocol::words::cells;
 
 pub struct Information;
 
-// The status of the filter of an estimate, with which the words end.
-fn of_estimate(s: Sizes, k: Model<'_>, words: &mut Values<'_>, filter: &mut [f64]) -> Option<u8> {
+// The filter of an estimate, with which the words end.
+fn of_estimate(
+    s: Sizes,
+    k: Model<'_>,
+    words: &mut Values<'_>,
+    filter: &mut [f64],
+) -> Option<Result<(), Refusal>> {
     let x = words.take(s.state())?;
     let p = words.take(s.square())?;
     if !words.is_end() {
@@ -32,82 +38,82 @@ fn of_information(
     k: Model<'_>,
     words: &mut Values<'_>,
     filter: &mut [f64],
-) -> Option<u8> {
+) -> Option<Result<(), Refusal>> {
     let omega = words.take(s.square())?;
     let xi = words.take(s.state())?;
-    let status = information::estimators_information_from_information(
+    information::estimators_information_from_information(
         s.n, s.m, s.i, k.a, k.b, k.h, k.q, k.r, omega, xi, filter,
-    );
-    if status == 0 { Some(0) } else { None }
+    ).ok()?;
+    Some(Ok(()))
 }
 
 // One sensor by its own function, else a list.
-fn fuse(s: Sizes, filter: &mut [f64], count: usize, sensors: &[f64]) -> Option<u8> {
+fn fuse(
+    s: Sizes,
+    filter: &mut [f64],
+    count: usize,
+    sensors: &[f64],
+) -> Option<Result<(), Refusal>> {
+    let Sizes { n, m, i } = s;
     if count != 1 {
         return Some(information::estimators_information_fuse_sensors(
-            s.n, s.m, s.i, filter, count, sensors,
+            n, m, i, filter, count, sensors,
         ));
     }
     let mut sensor = Values::new(sensors);
-    let h = sensor.take(cells(s.m, s.n))?;
-    let r_inv = sensor.take(cells(s.m, s.m))?;
+    let h = sensor.take(cells(m, n))?;
+    let r_inv = sensor.take(cells(m, m))?;
     let z = sensor.numbers();
-    Some(information::estimators_information_fuse_sensor(s.n, s.m, s.i, filter, h, r_inv, z))
+    Some(information::estimators_information_fuse_sensor(n, m, i, filter, h, r_inv, z))
 }
 
 impl Filter for Information {
-    fn noise(s: Sizes) -> usize {
-        cells(s.m, s.m)
-    }
+    const MATRIX_FIRST: bool = true;
 
     fn make(
         is_new: bool,
         s: Sizes,
         words: &mut Values<'_>,
         filter: &mut [f64],
-    ) -> Option<Result<(), u8>> {
+    ) -> Option<Result<(), Refusal>> {
         let k = Model::read(s, Self::noise(s), words)?;
-        let status = if is_new {
-            of_estimate(s, k, words, filter)?
+        if is_new {
+            of_estimate(s, k, words, filter)
         } else {
-            of_information(s, k, words, filter)?
-        };
-        Some(outcome(status, ()))
+            of_information(s, k, words, filter)
+        }
     }
 
-    fn take<'a>(
+    fn take(
         step: Step<'_>,
         s: Sizes,
         filter: &mut [f64],
-        given: Answer<'a>,
-    ) -> Option<Answer<'a>> {
+        told: &mut [f64],
+    ) -> Option<Result<(), Refusal>> {
         let Sizes { n, m, i } = s;
-        let mut out = [0.0; 16];
-        let told = &mut out[..step.told_cells(s)];
-        let status = match step {
-            Step::Nothing => 0,
+        Some(match step {
+            Step::Nothing => Ok(()),
             Step::Predict(u) => information::estimators_information_predict(n, m, i, filter, u),
             Step::Update(z) => information::estimators_information_update(n, m, i, filter, z, told),
-            Step::Fuse(count, sensors) => fuse(s, filter, count, sensors)?,
+            Step::Fuse(count, sensors) => return fuse(s, filter, count, sensors),
             Step::State => information::estimators_information_state(n, m, i, filter, told),
             Step::Covariance => information::estimators_information_covariance(
                 n, m, i, filter, told,
             ),
             Step::Reset(x, p) => information::estimators_information_reset(n, m, i, filter, x, p),
-        };
-        given.told(outcome(status, &*told))
+        })
     }
 
-    // Its omega and its xi.
-    fn left<'a>(s: Sizes, filter: &[f64], given: Answer<'a>) -> Option<Answer<'a>> {
-        let mut matrix = [0.0; 16];
-        let mut vector = [0.0; 16];
-        let omega = &mut matrix[..s.square()];
-        let xi = &mut vector[..s.state()];
-        let has_omega = information::estimators_information_matrix(s.n, s.m, s.i, filter, omega);
-        let has_xi = information::estimators_information_vector(s.n, s.m, s.i, filter, xi);
-        let left = given.numbers(outcome(has_omega, &*omega).ok()?)?;
-        left.numbers(outcome(has_xi, &*xi).ok()?)
+    // Its xi and its omega.
+    fn estimate(
+        s: Sizes,
+        filter: &[f64],
+        vector: &mut [f64],
+        matrix: &mut [f64],
+    ) -> Result<(), Refusal> {
+        let Sizes { n, m, i } = s;
+        information::estimators_information_matrix(n, m, i, filter, matrix)?;
+        information::estimators_information_vector(n, m, i, filter, vector)
     }
 }
 

@@ -5,8 +5,9 @@
 ghost use Rattle.std.specs.Prelude.{◌<◌, ◌≤◌, IfSome};
 ghost use Rattle.protocol.specs.Left.{left};
 
+use answer::Refusal;
 use estimators::matrices;
-use protocol::given::{Answer, outcome};
+use protocol::given::Answer;
 use protocol::names::{Made, Matrix, Number, OfOne, OfTwo};
 use protocol::values::Values;
 use protocol::words::cells;
@@ -94,7 +95,7 @@ impl<'a> Call<'a> {
         }
     }
 
-    fn made(self, op: Made, out: &mut [f64]) -> u8 {
+    fn made(self, op: Made, out: &mut [f64]) -> Result<(), Refusal> {
         match op {
             Made::Zeros => matrices::estimators_matrix_zeros(self.r, self.c, out),
             Made::Default => matrices::estimators_matrix_default(self.r, self.c, out),
@@ -103,7 +104,7 @@ impl<'a> Call<'a> {
         }
     }
 
-    fn of_one(self, op: OfOne, out: &mut [f64]) -> u8 {
+    fn of_one(self, op: OfOne, out: &mut [f64]) -> Result<(), Refusal> {
         let Call {
             r,
             c,
@@ -124,7 +125,7 @@ impl<'a> Call<'a> {
         }
     }
 
-    fn of_two(self, op: OfTwo, out: &mut [f64]) -> u8 {
+    fn of_two(self, op: OfTwo, out: &mut [f64]) -> Result<(), Refusal> {
         let Call { r, c, i, a, b, .. } = self;
         match op {
             OfTwo::Add => matrices::estimators_matrix_add_mat(r, c, a, b, out),
@@ -137,7 +138,7 @@ impl<'a> Call<'a> {
         }
     }
 
-    fn number(self, op: Number, out: &mut f64) -> u8 {
+    fn number(self, op: Number, out: &mut f64) -> Result<(), Refusal> {
         let Call {
             r,
             c,
@@ -163,16 +164,16 @@ fn told_equal<'a>(k: Call<'_>, given: Answer<'a>) -> Option<Answer<'a>>
     ensures { IfSome result (λ a. left a < left given.entry) }
 {
     let mut is_equal = false;
-    let status = matrices::estimators_matrix_eq(k.r, k.c, k.a, k.b, &mut is_equal);
-    given.told(outcome(status, &[]))?.count(is_equal as u64)
+    let outcome = matrices::estimators_matrix_eq(k.r, k.c, k.a, k.b, &mut is_equal);
+    given.told(outcome, &[])?.count(u64::from(is_equal))
 }
 
 fn told_number<'a>(op: Number, k: Call<'_>, given: Answer<'a>) -> Option<Answer<'a>>
     ensures { IfSome result (λ a. left a < left given.entry) }
 {
     let mut x = 0.0;
-    let status = k.number(op, &mut x);
-    given.told(outcome(status, &[x]))
+    let outcome = k.number(op, &mut x);
+    given.told(outcome, &[x])
 }
 
 pub fn answer<'a>(op: Matrix, mut words: Values<'_>, given: Answer<'a>) -> Option<Answer<'a>>
@@ -184,12 +185,12 @@ pub fn answer<'a>(op: Matrix, mut words: Values<'_>, given: Answer<'a>) -> Optio
     }
     let mut out = [0.0; 16];
     let matrix = &mut out[..k.result(op)];
-    let status = match op {
+    let outcome = match op {
         Matrix::Made(op) => k.made(op, matrix),
         Matrix::OfOne(op) => k.of_one(op, matrix),
         Matrix::OfTwo(op) => k.of_two(op, matrix),
         Matrix::Number(op) => return told_number(op, k, given),
         Matrix::Equal => return told_equal(k, given),
     };
-    given.told(outcome(status, &*matrix))
+    given.told(outcome, matrix)
 }

@@ -5,25 +5,21 @@
 ghost use Rattle.std.specs.Prelude.{◌<◌, ◌≤◌, IfSome};
 ghost use Rattle.protocol.specs.Left.{left};
 
+use answer::Refusal;
 use estimators::smoothers;
-use protocol::given::{Answer, outcome};
+use protocol::given::Answer;
 use protocol::names::Smoothing;
 use protocol::values::Values;
 use protocol::words::cells;
 
-// The numbers of that many pairs; 0 for more than 128.
+// The numbers of that many pairs of a state and a covariance; 0 for more than 4 states or 128 pairs.
 fn pairs(n: usize, count: usize) -> usize
     ensures { result ≤ 2560 }
 {
-    if 128 < count {
-        return 0;
-    }
-    match n {
-        1 => 2 * count,
-        2 => 6 * count,
-        3 => 12 * count,
-        4 => 20 * count,
-        _ => 0,
+    if n <= 4 && count <= 128 {
+        count * (n + n * n)
+    } else {
+        0
     }
 }
 
@@ -37,8 +33,8 @@ struct Smoother<'a> {
 }
 
 impl Smoother<'_> {
-    // Stores the slot of the next words; its status.
-    fn store(&mut self, words: &mut Values<'_>) -> Option<u8> {
+    // Stores the slot of the next words, or says why not; none, if the words end before.
+    fn store(&mut self, words: &mut Values<'_>) -> Option<Result<(), Refusal>> {
         let filtered = words.take(pairs(self.n, 1))?;
         let predicted = words.take(pairs(self.n, 1))?;
         Some(smoothers::estimators_rts_smoother_store_forward(
@@ -52,8 +48,9 @@ impl Smoother<'_> {
     }
 
     fn store_all(&mut self, offered: usize, words: &mut Values<'_>) -> Option<()> {
+        // A turn takes a slot's words; whether it is stored is not told.
         for _ in 0..offered {
-            self.store(words)?;
+            let _ = self.store(words)?;
         }
         Some(())
     }
@@ -68,12 +65,12 @@ impl Smoother<'_> {
         ensures { IfSome result (λ a. left a < left given.entry) }
     {
         let mut left = given.text(b"ok")?;
+        // A turn takes a slot's words, and a word of the answer.
         for _ in 0..offered {
-            let status = self.store(words)?;
-            left = left.count(status as u64)?;
+            left = left.status(self.store(words)?)?;
         }
         let counted = left.text(b"|")?.count(self.count as u64)?;
-        let listed = counted.count((self.count == 0) as u64)?;
+        let listed = counted.count(u64::from(self.count == 0))?;
         let end = pairs(self.n, self.count.wrapping_add(self.count)).min(self.slots.len());
         listed.numbers(&self.slots[..end])
     }
@@ -82,7 +79,7 @@ impl Smoother<'_> {
     fn slot<'a>(&self, k: usize, out: &mut [f64], given: Answer<'a>) -> Option<Answer<'a>>
         ensures { IfSome result (λ a. left a < left given.entry) }
     {
-        let status = smoothers::estimators_rts_smoother_get_state(
+        let outcome = smoothers::estimators_rts_smoother_get_state(
             self.n,
             self.room,
             self.count,
@@ -90,7 +87,7 @@ impl Smoother<'_> {
             k,
             out,
         );
-        given.told(outcome(status, &*out))
+        given.told(outcome, out)
     }
 
     // How many slots were smoothed, and the pairs; or a refusal.
@@ -102,7 +99,7 @@ impl Smoother<'_> {
     ) -> Option<Answer<'a>>
         ensures { IfSome result (λ a. left a < left given.entry) }
     {
-        let status = smoothers::estimators_rts_smoother_smooth(
+        let outcome = smoothers::estimators_rts_smoother_smooth(
             self.n,
             self.room,
             self.count,
@@ -110,8 +107,8 @@ impl Smoother<'_> {
             transition,
             out,
         );
-        let told = given.told(outcome(status, &[]))?;
-        if status != 0 {
+        let told = given.told(outcome, &[])?;
+        if outcome.is_err() {
             return Some(told);
         }
         told.count(self.count as u64)?.text(b"|")?.numbers(out)

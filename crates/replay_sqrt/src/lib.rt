@@ -5,9 +5,10 @@
 ghost use Rattle.std.specs.Prelude.{◌<◌, IfSome};
 ghost use Rattle.protocol.specs.Left.{left};
 
+use answer::Refusal;
 use estimators::sqrt_kalman;
 use protocol::filter::{self, Filter, Model, Sizes, Step};
-use protocol::given::{Answer, outcome};
+use protocol::given::Answer;
 use protocol::names::Filtering;
 use protocol::values::Values;
 use protocol::words::cells;
@@ -24,12 +25,12 @@ impl Filter for SquareRoot {
         s: Sizes,
         words: &mut Values<'_>,
         filter: &mut [f64],
-    ) -> Option<Result<(), u8>> {
+    ) -> Option<Result<(), Refusal>> {
         let Sizes { n, m, i } = s;
         let k = Model::read(s, Self::noise(s), words)?;
         let x = words.take(s.state())?;
         let last = words.take(s.square())?;
-        let status = if is_new {
+        Some(if is_new {
             sqrt_kalman::estimators_sqrt_kalman_new(
                 n, m, i, k.a, k.b, k.h, k.q, k.r, x, last, filter,
             )
@@ -37,43 +38,38 @@ impl Filter for SquareRoot {
             sqrt_kalman::estimators_sqrt_kalman_from_cholesky(
                 n, m, i, k.a, k.b, k.h, k.q, k.r, x, last, filter,
             )
-        };
-        Some(outcome(status, ()))
+        })
     }
 
-    fn take<'a>(
+    fn take(
         step: Step<'_>,
         s: Sizes,
         filter: &mut [f64],
-        given: Answer<'a>,
-    ) -> Option<Answer<'a>> {
+        told: &mut [f64],
+    ) -> Option<Result<(), Refusal>> {
         let Sizes { n, m, i } = s;
-        let mut room = [0.0; 16];
-        let out = &mut room[..step.told_cells(s)];
-        let status = match step {
-            Step::Nothing => 0,
+        Some(match step {
+            Step::Nothing => Ok(()),
             Step::Covariance => sqrt_kalman::estimators_sqrt_kalman_covariance(
-                n, m, i, filter, out,
+                n, m, i, filter, told,
             ),
             Step::Predict(u) => sqrt_kalman::estimators_sqrt_kalman_predict(n, m, i, filter, u),
-            Step::Update(z) => sqrt_kalman::estimators_sqrt_kalman_update(n, m, i, filter, z, out),
+            Step::Update(z) => sqrt_kalman::estimators_sqrt_kalman_update(n, m, i, filter, z, told),
             Step::Reset(x, p) => sqrt_kalman::estimators_sqrt_kalman_reset(n, m, i, filter, x, p),
             Step::Fuse(_, _) | Step::State => return None,
-        };
-        given.told(outcome(status, &*out))
+        })
     }
 
     // Its state and its factor.
-    fn left<'a>(s: Sizes, filter: &[f64], given: Answer<'a>) -> Option<Answer<'a>> {
+    fn estimate(
+        s: Sizes,
+        filter: &[f64],
+        vector: &mut [f64],
+        matrix: &mut [f64],
+    ) -> Result<(), Refusal> {
         let Sizes { n, m, i } = s;
-        let mut state = [0.0; 16];
-        let mut factor = [0.0; 16];
-        let x = &mut state[..s.state()];
-        let l = &mut factor[..s.square()];
-        let has_x = sqrt_kalman::estimators_sqrt_kalman_state(n, m, i, filter, x);
-        let has_l = sqrt_kalman::estimators_sqrt_kalman_cholesky_factor(n, m, i, filter, l);
-        let left = given.numbers(outcome(has_x, &*x).ok()?)?;
-        left.numbers(outcome(has_l, &*l).ok()?)
+        sqrt_kalman::estimators_sqrt_kalman_state(n, m, i, filter, vector)?;
+        sqrt_kalman::estimators_sqrt_kalman_cholesky_factor(n, m, i, filter, matrix)
     }
 }
 
