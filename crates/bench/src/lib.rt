@@ -54,6 +54,7 @@ fn steps(
     ensures { result ≡ steps_of times f u i z m }
 {
     let mut g = f;
+    // A count of steps: nothing has an index.
     for k in 0..times {
         g = g.predict(u, i).left.update(z, m).left;
     }

@@ -2,9 +2,10 @@
 ghost use Rattle.std.specs.Prelude.{◌≡◌, length};
 ghost use Rattle.root.specs.Root.{root as root_of};
 ghost use Rattle.scalar.specs.Number.{abs, clamp, saturated, of_whole};
-ghost use Rattle.answer.specs.Told.{given};
+ghost use Rattle.answer.specs.Told.{written};
 ghost use Rattle.c_slices.specs.Calls.{constants_in};
 
+use answer::Refusal;
 use scalar::{ControlScalar, PidScalar};
 
 pub fn estimators_scalar_sqrt(x: f64) -> f64
@@ -43,7 +44,6 @@ pub fn estimators_scalar_to_f64(x: f64) -> f64
     ControlScalar::to_f64(x)
 }
 
-// Not forwarded: a signed number handed on would need a proof about its bits.
 pub fn estimators_scalar_from_int(v: i32) -> f64
     ensures { result ≡ of_whole v }
 {
@@ -63,8 +63,8 @@ pub fn estimators_scalar_clamp_pid(x: f64, min: f64, max: f64) -> f64
 }
 
 // ZERO, ONE, TWO, HALF, PI and EPSILON. Refused with 1: a slice of another length than 6.
-pub fn estimators_scalar_constants(out: &mut [f64]) -> u8
-    ensures { (result, out.new) ≡ given out.old (constants_in (length out.old)) }
+pub fn estimators_scalar_constants(out: &mut [f64]) -> Result<(), Refusal>
+    ensures { (result, out.new) ≡ written out.old (constants_in (length out.old)) }
 {
     c_matrix::numbers::scalar_constants(out)
 }

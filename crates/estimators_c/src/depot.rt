@@ -4,6 +4,7 @@ ghost use Rattle.answer.specs.Told.{given};
 ghost use Rattle.sheets.specs.Report.{report};
 ghost use Rattle.sheet.specs.Call.{report_in};
 
+use answer::number_of;
 use estimators::depot;
 
 // The report of a sheet at the output's start, and how many bytes it has. Refused with 1: the output is shorter than 1,600 bytes.
@@ -12,5 +13,5 @@ pub extern "C" fn estimators_sheet_report(sheet: &[u8], out: &mut [u8], written:
     ensures { (result, (written.new, out.new))
         ≡ given (written.old, out.old) (report_in (report sheet.now) out.old) }
 {
-    depot::estimators_sheet_report(sheet, out, written)
+    number_of(depot::estimators_sheet_report(sheet, out, written))
 }

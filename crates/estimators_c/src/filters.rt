@@ -1,8 +1,9 @@
 // src/estimator/kalman.rs for C: each export calls the function of its name, and has its contract.
 ghost use Rattle.std.specs.Prelude.{◌≡◌, length};
-ghost use Rattle.answer.specs.Told.{given};
+ghost use Rattle.answer.specs.Told.{given, numbered};
 ghost use Rattle.c_copies.specs.Filter.{predict_in, update_in, new_in, reset_in, state_in, covariance_in, tracker_in};
 
+use answer::number_of;
 use estimators::filters;
 
 // One step on, with the input u of i numbers.
@@ -14,9 +15,9 @@ pub extern "C" fn estimators_kalman_predict(
     filter: &mut [f64],
     u: &[f64],
 ) -> u8
-    ensures { (result, filter.new) ≡ predict_in n m i filter.old u.now }
+    ensures { (result, filter.new) ≡ numbered (predict_in n m i filter.old u.now) }
 {
-    filters::estimators_kalman_predict(n, m, i, filter, u)
+    number_of(filters::estimators_kalman_predict(n, m, i, filter, u))
 }
 
 // Corrected by the measurement z of m numbers; the innovation is z less H times the state before. Refused with 3: inversion
@@ -30,9 +31,9 @@ pub extern "C" fn estimators_kalman_update(
     z: &[f64],
     innovation: &mut [f64],
 ) -> u8
-    ensures { (result, (filter.new, innovation.new)) ≡ update_in n m i filter.old z.now innovation.old }
+    ensures { (result, (filter.new, innovation.new)) ≡ numbered (update_in n m i filter.old z.now innovation.old) }
 {
-    filters::estimators_kalman_update(n, m, i, filter, z, innovation)
+    number_of(filters::estimators_kalman_update(n, m, i, filter, z, innovation))
 }
 
 // The filter of the parts a, b, h, q, r, x0 and p0, each by rows.
@@ -53,7 +54,7 @@ pub extern "C" fn estimators_kalman_new(
     ensures { (result, filter.new) ≡ given filter.old (new_in n m i (length filter.old)
         a.now b.now h.now q.now r.now x0.now p0.now) }
 {
-    filters::estimators_kalman_new(n, m, i, a, b, h, q, r, x0, p0, filter)
+    number_of(filters::estimators_kalman_new(n, m, i, a, b, h, q, r, x0, p0, filter))
 }
 
 // Another state x0 and covariance p0; the model stays.
@@ -68,7 +69,7 @@ pub extern "C" fn estimators_kalman_reset(
 ) -> u8
     ensures { (result, filter.new) ≡ given filter.old (reset_in n m i filter.old x0.now p0.now) }
 {
-    filters::estimators_kalman_reset(n, m, i, filter, x0, p0)
+    number_of(filters::estimators_kalman_reset(n, m, i, filter, x0, p0))
 }
 
 // The state, n numbers.
@@ -82,7 +83,7 @@ pub extern "C" fn estimators_kalman_state(
 ) -> u8
     ensures { (result, out.new) ≡ given out.old (state_in n m i filter.now (length out.old)) }
 {
-    filters::estimators_kalman_state(n, m, i, filter, out)
+    number_of(filters::estimators_kalman_state(n, m, i, filter, out))
 }
 
 // The covariance, n rows of n numbers.
@@ -96,7 +97,7 @@ pub extern "C" fn estimators_kalman_covariance(
 ) -> u8
     ensures { (result, out.new) ≡ given out.old (covariance_in n m i filter.now (length out.old)) }
 {
-    filters::estimators_kalman_covariance(n, m, i, filter, out)
+    number_of(filters::estimators_kalman_covariance(n, m, i, filter, out))
 }
 
 // A filter of 19 numbers that tracks position and speed, with the step dt in seconds.
@@ -109,5 +110,10 @@ pub extern "C" fn estimators_kalman_position_velocity(
 ) -> u8
     ensures { (result, filter.new) ≡ given filter.old (tracker_in dt process_noise measurement_noise (length filter.old)) }
 {
-    filters::estimators_kalman_position_velocity(dt, process_noise, measurement_noise, filter)
+    number_of(filters::estimators_kalman_position_velocity(
+        dt,
+        process_noise,
+        measurement_noise,
+        filter,
+    ))
 }

@@ -1,8 +1,9 @@
 // src/estimator/imm.rs for C: each export calls the function of its name, and has its contract.
 ghost use Rattle.std.specs.Prelude.{◌≡◌, length};
-ghost use Rattle.answer.specs.Told.{given};
+ghost use Rattle.answer.specs.Told.{given, numbered};
 ghost use Rattle.c_bank.specs.Bank.{mix_in, probabilities_in, fused_in, probability_in, new_in};
 
+use answer::number_of;
 use estimators::imm;
 
 // The bank of the models, one after another, the transition, c and r, each by rows; each probability is 1 / k.
@@ -21,15 +22,15 @@ pub extern "C" fn estimators_imm_new(
         ≡ given bank.old (new_in n m k (length bank.old) models.now transition.now c.now
         r.now) }
 {
-    imm::estimators_imm_new(n, m, k, models, transition, c, r, bank)
+    number_of(imm::estimators_imm_new(n, m, k, models, transition, c, r, bank))
 }
 
 // Every model's state and covariance mixed from those of all; mu becomes the predicted probabilities.
 #[unsafe(no_mangle)]
 pub extern "C" fn estimators_imm_mix_estimates(n: usize, m: usize, k: usize, bank: &mut [f64]) -> u8
-    ensures { (result, bank.new) ≡ mix_in n m k bank.old }
+    ensures { (result, bank.new) ≡ numbered (mix_in n m k bank.old) }
 {
-    imm::estimators_imm_mix_estimates(n, m, k, bank)
+    number_of(imm::estimators_imm_mix_estimates(n, m, k, bank))
 }
 
 // mu becomes each probability times its likelihood, as a part of their sum; 1 / k each where the sum is below EPSILON.
@@ -40,9 +41,9 @@ pub extern "C" fn estimators_imm_update_probabilities(
     k: usize,
     bank: &mut [f64],
 ) -> u8
-    ensures { (result, bank.new) ≡ probabilities_in n m k bank.old }
+    ensures { (result, bank.new) ≡ numbered (probabilities_in n m k bank.old) }
 {
-    imm::estimators_imm_update_probabilities(n, m, k, bank)
+    number_of(imm::estimators_imm_update_probabilities(n, m, k, bank))
 }
 
 // The states by their probabilities, n numbers.
@@ -56,7 +57,7 @@ pub extern "C" fn estimators_imm_fused_estimate(
 ) -> u8
     ensures { (result, out.new) ≡ given out.old (fused_in n m k bank.now (length out.old)) }
 {
-    imm::estimators_imm_fused_estimate(n, m, k, bank, out)
+    number_of(imm::estimators_imm_fused_estimate(n, m, k, bank, out))
 }
 
 // The probability of a model, from 0. Refused with 1 too: there is no such model.
@@ -71,5 +72,5 @@ pub extern "C" fn estimators_imm_model_probability(
 ) -> u8
     ensures { (result, out.new) ≡ given out.old (probability_in n m k bank.now model) }
 {
-    imm::estimators_imm_model_probability(n, m, k, bank, model, out)
+    number_of(imm::estimators_imm_model_probability(n, m, k, bank, model, out))
 }

@@ -4,34 +4,35 @@ ghost use Rattle.answer.specs.Told.{given};
 ghost use Rattle.c_slices.specs.Calls.{zeros_in, filled_in, identity_in, transpose_in, scale_in, neg_in, frob_norm_in, trace_in, inv_in, cholesky_in};
 ghost use Rattle.c_slices.specs.Calls.{get_in, set_in, add_in, sub_in, eq_in, mul_in, matvec_in, outer_in, vec_add_in, vec_sub_in, vec_scale_in, dot_in, vec_norm_in};
 
+use answer::number_of;
 use estimators::matrices;
 
 #[unsafe(no_mangle)]
 pub extern "C" fn estimators_matrix_zeros(r: usize, c: usize, out: &mut [f64]) -> u8
     ensures { (result, out.new) ≡ given out.old (zeros_in r c (length out.old)) }
 {
-    matrices::estimators_matrix_zeros(r, c, out)
+    number_of(matrices::estimators_matrix_zeros(r, c, out))
 }
 
 #[unsafe(no_mangle)]
 pub extern "C" fn estimators_matrix_default(r: usize, c: usize, out: &mut [f64]) -> u8
     ensures { (result, out.new) ≡ given out.old (zeros_in r c (length out.old)) }
 {
-    matrices::estimators_matrix_default(r, c, out)
+    number_of(matrices::estimators_matrix_default(r, c, out))
 }
 
 #[unsafe(no_mangle)]
 pub extern "C" fn estimators_matrix_filled(r: usize, c: usize, val: f64, out: &mut [f64]) -> u8
     ensures { (result, out.new) ≡ given out.old (filled_in r c val (length out.old)) }
 {
-    matrices::estimators_matrix_filled(r, c, val, out)
+    number_of(matrices::estimators_matrix_filled(r, c, val, out))
 }
 
 #[unsafe(no_mangle)]
 pub extern "C" fn estimators_matrix_identity(n: usize, out: &mut [f64]) -> u8
     ensures { (result, out.new) ≡ given out.old (identity_in n (length out.old)) }
 {
-    matrices::estimators_matrix_identity(n, out)
+    number_of(matrices::estimators_matrix_identity(n, out))
 }
 
 // From r rows and c columns to c rows and r columns.
@@ -39,7 +40,7 @@ pub extern "C" fn estimators_matrix_identity(n: usize, out: &mut [f64]) -> u8
 pub extern "C" fn estimators_matrix_transpose(r: usize, c: usize, a: &[f64], out: &mut [f64]) -> u8
     ensures { (result, out.new) ≡ given out.old (transpose_in r c a.now (length out.old)) }
 {
-    matrices::estimators_matrix_transpose(r, c, a, out)
+    number_of(matrices::estimators_matrix_transpose(r, c, a, out))
 }
 
 #[unsafe(no_mangle)]
@@ -52,28 +53,28 @@ pub extern "C" fn estimators_matrix_scale(
 ) -> u8
     ensures { (result, out.new) ≡ given out.old (scale_in r c a.now s (length out.old)) }
 {
-    matrices::estimators_matrix_scale(r, c, a, s, out)
+    number_of(matrices::estimators_matrix_scale(r, c, a, s, out))
 }
 
 #[unsafe(no_mangle)]
 pub extern "C" fn estimators_matrix_neg(r: usize, c: usize, a: &[f64], out: &mut [f64]) -> u8
     ensures { (result, out.new) ≡ given out.old (neg_in r c a.now (length out.old)) }
 {
-    matrices::estimators_matrix_neg(r, c, a, out)
+    number_of(matrices::estimators_matrix_neg(r, c, a, out))
 }
 
 #[unsafe(no_mangle)]
 pub extern "C" fn estimators_matrix_frob_norm(r: usize, c: usize, a: &[f64], out: &mut f64) -> u8
     ensures { (result, out.new) ≡ given out.old (frob_norm_in r c a.now) }
 {
-    matrices::estimators_matrix_frob_norm(r, c, a, out)
+    number_of(matrices::estimators_matrix_frob_norm(r, c, a, out))
 }
 
 #[unsafe(no_mangle)]
 pub extern "C" fn estimators_matrix_trace(n: usize, a: &[f64], out: &mut f64) -> u8
     ensures { (result, out.new) ≡ given out.old (trace_in n a.now) }
 {
-    matrices::estimators_matrix_trace(n, a, out)
+    number_of(matrices::estimators_matrix_trace(n, a, out))
 }
 
 // The inverse. Refused with 3: inversion rejects the matrix.
@@ -81,7 +82,7 @@ pub extern "C" fn estimators_matrix_trace(n: usize, a: &[f64], out: &mut f64) ->
 pub extern "C" fn estimators_matrix_inv(n: usize, a: &[f64], out: &mut [f64]) -> u8
     ensures { (result, out.new) ≡ given out.old (inv_in n a.now (length out.old)) }
 {
-    matrices::estimators_matrix_inv(n, a, out)
+    number_of(matrices::estimators_matrix_inv(n, a, out))
 }
 
 // The lower factor. Refused with 4: a reduced diagonal at or below zero.
@@ -89,7 +90,7 @@ pub extern "C" fn estimators_matrix_inv(n: usize, a: &[f64], out: &mut [f64]) ->
 pub extern "C" fn estimators_matrix_cholesky(n: usize, a: &[f64], out: &mut [f64]) -> u8
     ensures { (result, out.new) ≡ given out.old (cholesky_in n a.now (length out.old)) }
 {
-    matrices::estimators_matrix_cholesky(n, a, out)
+    number_of(matrices::estimators_matrix_cholesky(n, a, out))
 }
 
 // Row i, column j, from 0. Refused with 1 outside, as matrix_set.
@@ -104,7 +105,7 @@ pub extern "C" fn estimators_matrix_get(
 ) -> u8
     ensures { (result, out.new) ≡ given out.old (get_in r c i j a.now) }
 {
-    matrices::estimators_matrix_get(r, c, i, j, a, out)
+    number_of(matrices::estimators_matrix_get(r, c, i, j, a, out))
 }
 
 // The matrix with val in row i, column j.
@@ -120,7 +121,7 @@ pub extern "C" fn estimators_matrix_set(
 ) -> u8
     ensures { (result, out.new) ≡ given out.old (set_in r c i j a.now val (length out.old)) }
 {
-    matrices::estimators_matrix_set(r, c, i, j, a, val, out)
+    number_of(matrices::estimators_matrix_set(r, c, i, j, a, val, out))
 }
 
 #[unsafe(no_mangle)]
@@ -133,7 +134,7 @@ pub extern "C" fn estimators_matrix_add_mat(
 ) -> u8
     ensures { (result, out.new) ≡ given out.old (add_in r c a.now b.now (length out.old)) }
 {
-    matrices::estimators_matrix_add_mat(r, c, a, b, out)
+    number_of(matrices::estimators_matrix_add_mat(r, c, a, b, out))
 }
 
 #[unsafe(no_mangle)]
@@ -146,7 +147,7 @@ pub extern "C" fn estimators_matrix_sub_mat(
 ) -> u8
     ensures { (result, out.new) ≡ given out.old (sub_in r c a.now b.now (length out.old)) }
 {
-    matrices::estimators_matrix_sub_mat(r, c, a, b, out)
+    number_of(matrices::estimators_matrix_sub_mat(r, c, a, b, out))
 }
 
 // Equal cell by cell: -0 equals +0, and a NaN equals nothing.
@@ -160,7 +161,7 @@ pub extern "C" fn estimators_matrix_eq(
 ) -> u8
     ensures { (result, out.new) ≡ given out.old (eq_in r c a.now b.now) }
 {
-    matrices::estimators_matrix_eq(r, c, a, b, out)
+    number_of(matrices::estimators_matrix_eq(r, c, a, b, out))
 }
 
 // r rows and k columns times k rows and c columns.
@@ -175,7 +176,7 @@ pub extern "C" fn estimators_matrix_matmul(
 ) -> u8
     ensures { (result, out.new) ≡ given out.old (mul_in r k c a.now b.now (length out.old)) }
 {
-    matrices::estimators_matrix_matmul(r, k, c, a, b, out)
+    number_of(matrices::estimators_matrix_matmul(r, k, c, a, b, out))
 }
 
 // r rows and c columns times a vector of c numbers.
@@ -189,7 +190,7 @@ pub extern "C" fn estimators_matrix_matvec(
 ) -> u8
     ensures { (result, out.new) ≡ given out.old (matvec_in r c a.now v.now (length out.old)) }
 {
-    matrices::estimators_matrix_matvec(r, c, a, v, out)
+    number_of(matrices::estimators_matrix_matvec(r, c, a, v, out))
 }
 
 // A vector of r numbers times a transposed one of c.
@@ -203,40 +204,40 @@ pub extern "C" fn estimators_matrix_outer(
 ) -> u8
     ensures { (result, out.new) ≡ given out.old (outer_in r c v.now w.now (length out.old)) }
 {
-    matrices::estimators_matrix_outer(r, c, v, w, out)
+    number_of(matrices::estimators_matrix_outer(r, c, v, w, out))
 }
 
 #[unsafe(no_mangle)]
 pub extern "C" fn estimators_matrix_vec_add(n: usize, v: &[f64], w: &[f64], out: &mut [f64]) -> u8
     ensures { (result, out.new) ≡ given out.old (vec_add_in n v.now w.now (length out.old)) }
 {
-    matrices::estimators_matrix_vec_add(n, v, w, out)
+    number_of(matrices::estimators_matrix_vec_add(n, v, w, out))
 }
 
 #[unsafe(no_mangle)]
 pub extern "C" fn estimators_matrix_vec_sub(n: usize, v: &[f64], w: &[f64], out: &mut [f64]) -> u8
     ensures { (result, out.new) ≡ given out.old (vec_sub_in n v.now w.now (length out.old)) }
 {
-    matrices::estimators_matrix_vec_sub(n, v, w, out)
+    number_of(matrices::estimators_matrix_vec_sub(n, v, w, out))
 }
 
 #[unsafe(no_mangle)]
 pub extern "C" fn estimators_matrix_vec_scale(n: usize, v: &[f64], s: f64, out: &mut [f64]) -> u8
     ensures { (result, out.new) ≡ given out.old (vec_scale_in n v.now s (length out.old)) }
 {
-    matrices::estimators_matrix_vec_scale(n, v, s, out)
+    number_of(matrices::estimators_matrix_vec_scale(n, v, s, out))
 }
 
 #[unsafe(no_mangle)]
 pub extern "C" fn estimators_matrix_vec_dot(n: usize, v: &[f64], w: &[f64], out: &mut f64) -> u8
     ensures { (result, out.new) ≡ given out.old (dot_in n v.now w.now) }
 {
-    matrices::estimators_matrix_vec_dot(n, v, w, out)
+    number_of(matrices::estimators_matrix_vec_dot(n, v, w, out))
 }
 
 #[unsafe(no_mangle)]
 pub extern "C" fn estimators_matrix_vec_norm(n: usize, v: &[f64], out: &mut f64) -> u8
     ensures { (result, out.new) ≡ given out.old (vec_norm_in n v.now) }
 {
-    matrices::estimators_matrix_vec_norm(n, v, out)
+    number_of(matrices::estimators_matrix_vec_norm(n, v, out))
 }

@@ -5,6 +5,7 @@ ghost use Rattle.scalar.specs.Number.{abs, clamp, saturated, of_whole};
 ghost use Rattle.answer.specs.Told.{given};
 ghost use Rattle.c_slices.specs.Calls.{constants_in};
 
+use answer::number_of;
 use estimators::numbers;
 
 #[unsafe(no_mangle)]
@@ -75,5 +76,5 @@ pub extern "C" fn estimators_scalar_clamp_pid(x: f64, min: f64, max: f64) -> f64
 pub extern "C" fn estimators_scalar_constants(out: &mut [f64]) -> u8
     ensures { (result, out.new) ≡ given out.old (constants_in (length out.old)) }
 {
-    numbers::estimators_scalar_constants(out)
+    number_of(numbers::estimators_scalar_constants(out))
 }

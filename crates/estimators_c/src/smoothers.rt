@@ -3,6 +3,7 @@ ghost use Rattle.std.specs.Prelude.{◌≡◌, length};
 ghost use Rattle.answer.specs.Told.{given};
 ghost use Rattle.c_smoothers.specs.Smoother.{store_in, slot_in, smooth_in};
 
+use answer::number_of;
 use estimators::smoothers;
 
 // One slot more, after those stored, and the count one more. Refused with 5: the count is the room.
@@ -18,7 +19,9 @@ pub extern "C" fn estimators_rts_smoother_store_forward(
     ensures { (result, (count.new, slots.new)) ≡ given (count.old, slots.old)
         (store_in n room count.old slots.old filtered.now predicted.now) }
 {
-    smoothers::estimators_rts_smoother_store_forward(n, room, count, slots, filtered, predicted)
+    number_of(smoothers::estimators_rts_smoother_store_forward(
+        n, room, count, slots, filtered, predicted,
+    ))
 }
 
 // A copy of slot k. Refused with 6: k is not below the count.
@@ -33,7 +36,7 @@ pub extern "C" fn estimators_rts_smoother_get_state(
 ) -> u8
     ensures { (result, out.new) ≡ given out.old (slot_in n room count slots.now k (length out.old)) }
 {
-    smoothers::estimators_rts_smoother_get_state(n, room, count, slots, k, out)
+    number_of(smoothers::estimators_rts_smoother_get_state(n, room, count, slots, k, out))
 }
 
 // The smoothed pairs of the stored slots into output, and +0 past them. Refused with 2: no slot; with 3: inversion rejects the
@@ -50,5 +53,5 @@ pub extern "C" fn estimators_rts_smoother_smooth(
     ensures { (result, output.new) ≡ given output.old
         (smooth_in n room count slots.now transition.now (length output.old)) }
 {
-    smoothers::estimators_rts_smoother_smooth(n, room, count, slots, transition, output)
+    number_of(smoothers::estimators_rts_smoother_smooth(n, room, count, slots, transition, output))
 }
