@@ -1,12 +1,13 @@
--- Laws of a loop that places rows, and of a row written out number by number. Assumes nothing.
+-- Laws of loops that place rows or copy numbers, and of a row written out number by number. Assumes nothing.
 use mathlib.Core.Path.{◌≡◌, refl, sym, ap, ap₂, ◌∙◌}
-use mathlib.Core.List.{List}
+use mathlib.Core.List.{List, ◌++◌}
 use Prim.Native.Nat.{ℕ, ◌+◌, ◌*◌, ◌≤◌, ◌<◌}
 use native.Mathlib.Nat.{mul-le-mul_right, suc-mul}
 use native.Mathlib.Numerals.{add-one}
 use native.Mathlib.Omega.{arith}
-use lib.ListN.{length, set}
-use lib.Ieee.{Float}
+use lib.ListN.{length, set, take, drop, length-set}
+use lib.Seq.{take-length, paste, paste-zero, paste-suc}
+use lib.Ieee.{Float, nan}
 use Rattle.answer.specs.Table.{table}
 use Rattle.algebra.specs.Matrix.{at}
 use Rattle.algebra.specs.Array.{cut}
@@ -56,6 +57,35 @@ pub putting_all : {k w : ℕ} {f : ℕ → List Float} {b : List Float} {n i : �
 putting_all {k} {w} {f} {b} {n} {i} p h =
     let same : i ≡ n = omega arith in
     p.is ∙ ap (λ (j : ℕ). placed k (joined (table j f)) b) same
+
+-- ---- a loop that copies
+
+-- A loop has copied the first i numbers of a into b, from number k on, and has l: its invariant
+pub record Copying (k : ℕ) (a b : List Float) (i : ℕ) (l : List Float) : Type 0 where
+  pub within : i ≤ length a
+  pub fits : k + length a ≤ length b
+  pub is : l ≡ paste b k a i
+  pub long : length l ≡ length b
+
+pub copying_none : (k : ℕ) (a b : List Float) → k + length a ≤ length b → Copying k a b 0 b
+copying_none k a b h = record { within = omega arith; fits = h; is = paste-zero b k a; long = refl }
+
+pub copying_more : {k : ℕ} {a b l : List Float} {i : ℕ} → Copying k a b i l → i < length a → Copying k a b (i + 1) (set l (k + i) (at a i))
+copying_more {k} {a} {b} {l} {i} e h = record {
+  within = omega arith;
+  fits = e.fits;
+  is =
+      ap (λ (t : List Float). set t (k + i) (at a i)) e.is
+      ∙ paste-suc b k a i nan (omega (arith, e.fits)) h
+      ∙ ap (paste b k a) (sym (add-one i));
+  long = length-set l (k + i) (at a i) ∙ e.long;
+}
+
+pub copying_all : {k : ℕ} {a b l : List Float} {i : ℕ} → Copying k a b i l → length a ≤ i → l ≡ placed k a b
+unfolding placed
+copying_all {k} {a} {b} {l} {i} e h =
+    let same : i ≡ length a = omega arith in
+    e.is ∙ ap (paste b k a) same ∙ ap (λ (t : List Float). take k b ++ t ++ drop (k + length a) b) (take-length a)
 
 -- ---- numbers written out
 

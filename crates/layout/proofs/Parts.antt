@@ -59,10 +59,46 @@ module _ (L : Parts) (b : List Float) (h : total L ≤ length b) where
       matrix-kept (offset L k) l b (omega (arith, part-within L k q)) (part_rows L j) (part_columns L j)
       (subst (Apart (offset L j) (part_size L j) (offset L k)) (sym e) (parts-apart L j k p q n))
 
+  -- the parts before part k stand as they were, whatever is placed from there on
+  pub earlier_kept : (j k : ℕ) (l : List Float) → j < k → k ≤ length L → offset L k + length l ≤ length b
+      → part_at L (placed (offset L k) l b) j ≡ part_at L b j
+  earlier_kept j k l p q g = matrix-kept (offset L k) l b g (part_rows L j) (part_columns L j) (before (part-before L j k p q))
+
+-- ---- the numbers of all parts, one after another, are the slice
+numbers_from : (L : Parts) (q : ℕ) (b : List Float) → q + total L ≤ length b
+    → joined (table (length L) (λ k. joined (matrix_at (part_rows L k) (part_columns L k) b (q + offset L k)))) ≡ take (total L) (drop q b)
+numbers_from [] q b h = refl
+numbers_from (s ∷ L) q b h =
+    let w = s.0 * s.1 in
+    let first : q + 0 ≡ q = omega arith in
+    ap₂ (λ (x y : List Float). x ++ y)
+    (ap (λ (k : ℕ). joined (matrix_at s.0 s.1 b k)) first ∙ matrix-numbers s.0 s.1 q b (omega arith))
+    (ap joined
+    (table_ext (length L) (λ k. joined (matrix_at (part_rows L k) (part_columns L k) b (q + (w + offset L k))))
+    (λ k. joined (matrix_at (part_rows L k) (part_columns L k) b (q + w + offset L k)))
+    (λ k p. let here : q + (w + offset L k) ≡ q + w + offset L k = omega arith in ap (λ (j : ℕ). joined (matrix_at (part_rows L k) (part_columns L k) b j)) here))
+    ∙ numbers_from L (q + w) b (omega arith)
+    ∙ ap (take (total L)) (sym (drop-drop w q b)))
+    ∙ sym (take-add w (total L) (drop q b))
+
+pub parts-numbers : (L : Parts) (b : List Float) → length b ≡ total L → joined (table (length L) (λ k. joined (part_at L b k))) ≡ b
+parts-numbers L b e =
+    ap joined
+    (table_ext (length L) (λ k. joined (part_at L b k)) (λ k. joined (matrix_at (part_rows L k) (part_columns L k) b (0 + offset L k)))
+    (λ k p. let here : offset L k ≡ 0 + offset L k = omega arith in ap (λ (j : ℕ). joined (matrix_at (part_rows L k) (part_columns L k) b j)) here))
+    ∙ numbers_from L 0 b (omega arith)
+    ∙ take_all (total L) b (omega arith)
+
 -- ---- lists of numbers that are just as long as the parts
 pub data Fits : Parts → List (List Float) → Type 0 where
   none : Fits [] []
   more : {r c : ℕ} {L : Parts} {l : List Float} {m : List (List Float)} → length l ≡ r * c → Fits L m → Fits ((r, c) ∷ L) (l ∷ m)
+
+pub fits-matrix : {r c : ℕ} {L : Parts} {A : Matrix} {m : List (List Float)} → Shape r c A → Fits L m → Fits ((r, c) ∷ L) (joined A ∷ m)
+fits-matrix {r} {c} {A = A} s f = more (length-rows r c A s) f
+
+pub fits-vector : {n : ℕ} {L : Parts} {v : List Float} {m : List (List Float)} → length v ≡ n → Fits L m → Fits ((n, 1) ∷ L) (v ∷ m)
+fits-vector {n} {v = v} e f = let long : length v ≡ n * 1 = omega arith in more long f
 
 pub fits-total : {L : Parts} {m : List (List Float)} → Fits L m → length (joined m) ≡ total L
 fits-total none = refl
@@ -72,6 +108,30 @@ fits-offset : {L : Parts} {m : List (List Float)} → Fits L m → (k : ℕ) →
 fits-offset f zero = refl
 fits-offset none (suc k) = refl
 fits-offset (more {l = l} {m = m} e f) (suc k) = length-append l (joined (take k m)) ∙ omega (arith, e, fits-offset f k)
+
+fits-part : {L : Parts} {m : List (List Float)} → Fits L m → (k : ℕ) → k < length L → length (get_or m k []) ≡ part_size L k
+fits-part none k h = absurd (not-suc-le-zero h)
+fits-part (more e f) zero h = e
+fits-part (more e f) (suc k) h = fits-part f k (le_of_suc-le-suc h)
+
+-- number i of part k
+at_part : {L : Parts} {m : List (List Float)} → Fits L m → (k : ℕ) → k < length L → (i : ℕ) → i < part_size L k
+    → at (joined m) (offset L k + i) ≡ at (get_or m k []) i
+at_part none k h i g = absurd (not-suc-le-zero h)
+at_part (more {l = l} {m = m} e f) zero h i g =
+    let here : 0 + i ≡ i = omega arith in
+    ap (at (l ++ joined m)) here ∙ get_or-append l (joined m) nan i (omega (arith, e))
+at_part (more {r} {c} {L} {l} {m} e f) (suc k) h i g =
+    let here : r * c + offset L k + i ≡ length l + (offset L k + i) = omega (arith, e) in
+    ap (at (l ++ joined m)) here ∙ get_or-append-add l (joined m) (offset L k + i) nan ∙ at_part f k (le_of_suc-le-suc h) i g
+
+-- they are read back from the slice that they make: the matrix A in part k, or its n numbers
+module _ {L : Parts} {m : List (List Float)} (f : Fits L m) (k : ℕ) (h : k < length L) where
+  pub part-back : (A : Matrix) → Shape (part_rows L k) (part_columns L k) A → get_or m k [] ≡ joined A → part_at L (joined m) k ≡ A
+  part-back A s e = matrix_is (offset L k) A (joined m) s (λ i g. at_part f k h i g ∙ ap (λ (l : List Float). at l i) e)
+
+  pub numbers-back : {n : ℕ} → length (get_or m k []) ≡ n → vector_at n (joined m) (offset L k) ≡ get_or m k []
+  numbers-back {n} e = vector_is (offset L k) (get_or m k []) (joined m) e (λ i g. at_part f k h i (omega (arith, fits-part f k h)))
 
 -- ---- parts placed one after another: b₁ has the first k, and part k is placed next
 joined-next : (m : List (List Float)) (k : ℕ) → k < length m → joined (take (suc k) m) ≡ joined (take k m) ++ get_or m k []
