@@ -5,7 +5,7 @@ ghost use Rattle.answer.specs.Told.{written};
 ghost use Rattle.c_slices.specs.Calls.{zeros_in, filled_in, identity_in, get_in, set_in};
 
 use answer::Refusal;
-use c_slices::{give, give_matrix, matrix, rows_in};
+use c_slices::{give, give_part, matrix, part_in};
 use elementwise::Matrix;
 
 // ---- constructors
@@ -27,14 +27,14 @@ pub fn matrix_filled(r: usize, c: usize, val: f64, out: &mut [f64]) -> Result<()
     ensures { (result, out.new) ≡ written out.old (filled_in r c val (length out.old)) }
 {
     let (rows, cols) = matrix(r, c, out.len())?;
-    give_matrix(out, Matrix::filled(r, c, val), rows, cols)
+    give_part(out, Matrix::filled(r, c, val), rows, cols)
 }
 
 pub fn matrix_identity(n: usize, out: &mut [f64]) -> Result<(), Refusal>
     ensures { (result, out.new) ≡ written out.old (identity_in n (length out.old)) }
 {
     let (size, _) = matrix(n, n, out.len())?;
-    give_matrix(out, Matrix::identity(n), size, size)
+    give_part(out, Matrix::identity(n), size, size)
 }
 
 // ---- one cell
@@ -51,7 +51,7 @@ pub fn matrix_get(
     ensures { (result, out.new) ≡ written out.old (get_in r c i j a.now) }
 {
     let (rows, cols) = matrix(r, c, a.len())?;
-    give(out, elementwise::get(rows_in(a, rows, cols), r, c, i, j))
+    give(out, elementwise::get(part_in(a, rows, cols), r, c, i, j))
 }
 
 // The matrix with val in row i, column j.
@@ -68,6 +68,6 @@ pub fn matrix_set(
 {
     let (rows, cols) = matrix(r, c, a.len())?;
     matrix(r, c, out.len())?;
-    let x = rows_in(a, rows, cols);
-    give_matrix(out, elementwise::set(x, r, c, i, j, val), rows, cols)
+    let x = part_in(a, rows, cols);
+    give_part(out, elementwise::set(x, r, c, i, j, val), rows, cols)
 }

@@ -12,7 +12,7 @@ ghost use Rattle.c_slices.specs.Calls.{transpose_in, scale_in, neg_in, frob_norm
 ghost use Rattle.c_slices.specs.Calls.{cellwise_in, add_in, sub_in, eq_in, product_in, mul_in};
 
 use answer::Refusal;
-use c_slices::{give, give_matrix, matrix, rows_in};
+use c_slices::{give, give_part, matrix, part_in};
 use layout::{put_matrix, put_vector, vector_at};
 use rows::{Difference, Operation, Sum};
 use sizes::Size;
@@ -25,7 +25,7 @@ pub fn matrix_transpose(r: usize, c: usize, a: &[f64], out: &mut [f64]) -> Resul
 {
     let (rows, cols) = matrix(r, c, a.len())?;
     matrix(c, r, out.len())?;
-    let x = rows_in(a, rows, cols);
+    let x = part_in(a, rows, cols);
     put_matrix(out, 0, &rows::transposed(&x, rows, cols), cols, rows);
     Ok(())
 }
@@ -35,8 +35,8 @@ pub fn matrix_scale(r: usize, c: usize, a: &[f64], s: f64, out: &mut [f64]) -> R
 {
     let (rows, cols) = matrix(r, c, a.len())?;
     matrix(r, c, out.len())?;
-    let x = rows_in(a, rows, cols);
-    give_matrix(out, elementwise::scale(x, r, c, s), rows, cols)
+    let x = part_in(a, rows, cols);
+    give_part(out, elementwise::scale(x, r, c, s), rows, cols)
 }
 
 #[tactic(auto, unfolding(algebra::specs::Matrix::negated))]
@@ -50,14 +50,14 @@ pub fn matrix_frob_norm(r: usize, c: usize, a: &[f64], out: &mut f64) -> Result<
     ensures { (result, out.new) ≡ written out.old (frob_norm_in r c a.now) }
 {
     let (rows, cols) = matrix(r, c, a.len())?;
-    give(out, elementwise::frob_norm(rows_in(a, rows, cols), r, c))
+    give(out, elementwise::frob_norm(part_in(a, rows, cols), r, c))
 }
 
 pub fn matrix_trace(n: usize, a: &[f64], out: &mut f64) -> Result<(), Refusal>
     ensures { (result, out.new) ≡ written out.old (trace_in n a.now) }
 {
     let (size, _) = matrix(n, n, a.len())?;
-    give(out, elementwise::trace(rows_in(a, size, size), n))
+    give(out, elementwise::trace(part_in(a, size, size), n))
 }
 
 // A matrix of one number into a lent place; a refusal writes nothing.
@@ -77,8 +77,8 @@ pub fn matrix_inv(n: usize, a: &[f64], out: &mut [f64]) -> Result<(), Refusal>
     if n == 1 {
         return give_number(out, small_inverse::inverse_number(a[0]));
     }
-    let x = rows_in(a, size, size);
-    give_matrix(out, inverse::inverse_of(&x, size), size, size)
+    let x = part_in(a, size, size);
+    give_part(out, inverse::inverse_of(&x, size), size, size)
 }
 
 // ---- rows that are read and written one by one, so that they stay in registers
@@ -120,7 +120,7 @@ pub fn matrix_cholesky(n: usize, a: &[f64], out: &mut [f64]) -> Result<(), Refus
     let (size, _) = matrix(n, n, a.len())?;
     matrix(n, n, out.len())?;
     let x = four_rows(a, size);
-    give_matrix(out, cholesky::factor_of(&x, size), size, size)
+    give_part(out, cholesky::factor_of(&x, size), size, size)
 }
 
 // ---- two matrices
@@ -138,8 +138,8 @@ fn cellwise<O: Operation>(
     let (rows, cols) = matrix(r, c, a.len())?;
     matrix(r, c, b.len())?;
     matrix(r, c, out.len())?;
-    let x = rows_in(a, rows, cols);
-    let y = rows_in(b, rows, cols);
+    let x = part_in(a, rows, cols);
+    let y = part_in(b, rows, cols);
     put_matrix(
         out,
         0,
@@ -182,8 +182,8 @@ pub fn matrix_eq(r: usize, c: usize, a: &[f64], b: &[f64], out: &mut bool) -> Re
 {
     let (rows, cols) = matrix(r, c, a.len())?;
     matrix(r, c, b.len())?;
-    let x = rows_in(a, rows, cols);
-    let y = rows_in(b, rows, cols);
+    let x = part_in(a, rows, cols);
+    let y = part_in(b, rows, cols);
     give(out, elementwise::eq(x, r, c, y, r, c))
 }
 

@@ -37,7 +37,7 @@ pub record Whole (r c : ℕ) (b : List Float) (s u : Size) : Type 0 where
   pub cols : count u ≡ c
   pub long : length b ≡ r * c
 
-whole_of : (r c : ℕ) (b : List Float) (s u : Size) → is_matrix r c (length b) ≡ true → s ≡ size_of r → u ≡ size_of c → Whole r c b s u
+pub whole_of : (r c : ℕ) (b : List Float) (s u : Size) → is_matrix r c (length b) ≡ true → s ≡ size_of r → u ≡ size_of c → Whole r c b s u
 unfolding is_matrix
 whole_of r c b s u e p q =
     let h = and_left (shaped r c) _ e in

@@ -2,15 +2,16 @@
 // reads numbers and slices and writes into a lent place; a refusal goes up by `?`, and writes nothing.
 #![tactic(auto)]
 
-ghost use Rattle.std.specs.Prelude.{◌≡◌, ◌*◌, length};
+ghost use Rattle.std.specs.Prelude.{◌≡◌, true, ◌*◌, length};
 ghost use Rattle.answer.specs.Answer.{where_sized};
 ghost use Rattle.answer.specs.Told.{written};
+ghost use Rattle.algebra.specs.Array.{used};
 ghost use Rattle.sizes.specs.Size.{count, size_of, part};
 ghost use Rattle.c_slices.specs.Slices.{is_matrix, is_vector, rows};
 ghost use Rattle.c_slices.specs.Told.{matrix_told};
 
 use answer::Refusal;
-use sizes::{Size, fits, shape};
+use sizes::{Size, fits, shape, size_of};
 
 // ---- the sizes that a call is given, by their type, where a slice of len numbers has them
 
@@ -38,13 +39,20 @@ pub fn vector(n: usize, len: usize) -> Result<Size, Refusal>
 
 // The r rows and c columns of a, which has just so many numbers.
 #[inline(always)]
-pub fn rows_in(a: &[f64], r: Size, c: Size) -> [[f64; 4]; 4]
+pub fn part_in(a: &[f64], r: Size, c: Size) -> [[f64; 4]; 4]
     ensures { length a.now ≡ count r * count c → part r c result ≡ rows (count r) (count c) a.now }
 {
     layout::matrix_at(a, 0, r, c)
 }
 
-// What is answered; a refusal writes nothing, here as in give_matrix.
+// The same by any numbers for r and c: what they say of a slice that the test does not pass is not told.
+pub fn rows_in(a: &[f64], r: usize, c: usize) -> [[f64; 4]; 4]
+    ensures { is_matrix r c (length a.now) ≡ true → used r c result ≡ rows r c a.now }
+{
+    part_in(a, size_of(r), size_of(c))
+}
+
+// What is answered; a refusal writes nothing, here as in the two below.
 #[inline(always)]
 pub fn give<T: Copy>(out: &mut T, answer: Result<T, Refusal>) -> Result<(), Refusal>
     ensures { (result, out.new) ≡ written out.old answer }
@@ -55,7 +63,7 @@ pub fn give<T: Copy>(out: &mut T, answer: Result<T, Refusal>) -> Result<(), Refu
 
 // The r rows and c columns that are answered, into a place of just so many numbers.
 #[inline(always)]
-pub fn give_matrix(
+pub fn give_part(
     out: &mut [f64],
     answer: Result<[[f64; 4]; 4], Refusal>,
     r: Size,
@@ -65,4 +73,16 @@ pub fn give_matrix(
 {
     layout::put_matrix(out, 0, &answer?, r, c);
     Ok(())
+}
+
+// The same by any numbers for r and c.
+pub fn give_matrix(
+    out: &mut [f64],
+    answer: Result<[[f64; 4]; 4], Refusal>,
+    r: usize,
+    c: usize,
+) -> Result<(), Refusal>
+    ensures { is_matrix r c (length out.old) ≡ true → (result, out.new) ≡ written out.old (matrix_told r c answer) }
+{
+    give_part(out, answer, size_of(r), size_of(c))
 }

@@ -8,7 +8,7 @@ ghost use Rattle.sizes.specs.Size.{count, front};
 ghost use Rattle.c_slices.specs.Calls.{matvec_in, outer_in, pairwise_in, vec_add_in, vec_sub_in, vec_scale_in, dot_in, vec_norm_in};
 
 use answer::Refusal;
-use c_slices::{give, give_matrix, matrix, rows_in, vector};
+use c_slices::{give, give_part, matrix, part_in, vector};
 use layout::put_vector;
 use rows::{Difference, Operation, Sum};
 use sizes::Size;
@@ -33,7 +33,7 @@ pub fn matrix_matvec(
     let (rows, cols) = matrix(r, c, a.len())?;
     vector(c, v.len())?;
     vector(r, out.len())?;
-    let x = rows_in(a, rows, cols);
+    let x = part_in(a, rows, cols);
     let y = numbers_in(v, cols);
     put_vector(out, 0, kernel::product_vector(&x, &y, rows, cols), rows);
     Ok(())
@@ -54,7 +54,7 @@ pub fn matrix_outer(
     matrix(r, c, out.len())?;
     let x = numbers_in(v, rows);
     let y = numbers_in(w, cols);
-    give_matrix(out, vector::outer(x, r, y, c), rows, cols)
+    give_part(out, vector::outer(x, r, y, c), rows, cols)
 }
 
 // The operation, number by number.

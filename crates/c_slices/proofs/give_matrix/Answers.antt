@@ -1,17 +1,12 @@
--- `give_matrix` meets its contract: what is answered is put.
-use mathlib.Core.Path.{refl, sym, ap, ◌∙◌}
-use mathlib.Core.List.{List}
-use lib.Ieee.{Float}
-use Rattle.std.specs.Prelude.{Ok}
-use Rattle.answer.specs.Answer.{Answer}
+-- `give_matrix` meets its contract: a place that passes the test is just as long as the sizes of its numbers say.
+use mathlib.Core.Path.{◌∙◌}
 use Rattle.answer.specs.Told.{written}
-use Rattle.sizes.specs.Size.{count}
 use Rattle.c_slices.specs.Told.{matrix_told}
-use Rattle.c_slices.proofs.Ways.{matrix-out}
+use Rattle.c_slices.proofs.Ways.{whole_of, long_at}
 use Rattle.c_slices.proofs.give_matrix.Goals as goal
 
 pub returns : goal.returns
 returns c e =
     let a = c.args in
-    ap (λ (l : List Float). (Ok tt, l)) (matrix-out _ _ e refl refl c.put_matrix.ensures)
-    ∙ ap (λ (m : Answer (List (List Float))). written a.out.now (matrix_told (count a.r) (count a.c) m)) (sym c.in_ok-answer.was)
+    let w = whole_of _ _ a.out.now _ _ e c.size_of.ensures c.size_of-2.ensures in
+    c.give_part.ensures (long_at w w.rows w.cols) ∙ (λ i. written a.out.now (matrix_told (w.rows i) (w.cols i) a.answer))

@@ -13,4 +13,4 @@ returns c =
     let o = whole a.r a.c a.out.now c.matrix.ensures c.in_ok-matrix.was in
     matrix-handed a.out.now (λ i. v.is i && (w.is i && o.is i)) o.shape o.long v.rows w.rows
     (λ i. outer a.r a.c (read_vector v v.rows _ c.numbers_in-x.ensures i) (read_vector w w.rows _ c.numbers_in-y.ensures i))
-    (shape-outer _ _ _ _) c.outer.ensures c.give_matrix.ensures
+    (shape-outer _ _ _ _) c.outer.ensures c.give_part.ensures

@@ -8,4 +8,4 @@ pub returns : goal.returns
 returns c =
     let a = c.args in
     let o = whole a.r a.c a.out.now c.matrix.ensures c.in_ok-rows.was in
-    matrix-handed a.out.now o.is o.shape o.long o.rows o.cols refl (shape-filled _ _ _) c.filled.ensures c.give_matrix.ensures
+    matrix-handed a.out.now o.is o.shape o.long o.rows o.cols refl (shape-filled _ _ _) c.filled.ensures c.give_part.ensures

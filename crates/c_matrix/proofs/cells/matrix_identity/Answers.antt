@@ -8,4 +8,4 @@ pub returns : goal.returns
 returns c =
     let a = c.args in
     let o = whole a.n a.n a.out.now c.matrix.ensures c.in_ok-size.was in
-    matrix-handed a.out.now o.is o.size o.long o.rows o.rows refl (shape-identity _) c.identity.ensures c.give_matrix.ensures
+    matrix-handed a.out.now o.is o.size o.long o.rows o.rows refl (shape-identity _) c.identity.ensures c.give_part.ensures

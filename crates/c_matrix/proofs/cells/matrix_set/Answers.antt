@@ -11,4 +11,4 @@ returns c =
     let w = whole a.r a.c a.a.now c.matrix.ensures c.in_ok-rows.was in
     let o = whole a.r a.c a.out.now c.matrix-2.ensures c.in_ok-matrix.was in
     matrix-where _ a.out.now (λ i. w.is i && o.is i) o.long w.rows w.cols
-    (λ i. set_cell a.r a.c a.i a.j a.val (read w w.rows w.cols _ c.rows_in-x.ensures i)) (shape-set _ _ _ _ _ _) c.set.ensures c.give_matrix.ensures
+    (λ i. set_cell a.r a.c a.i a.j a.val (read w w.rows w.cols _ c.part_in-x.ensures i)) (shape-set _ _ _ _ _ _) c.set.ensures c.give_part.ensures

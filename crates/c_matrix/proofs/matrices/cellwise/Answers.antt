@@ -14,5 +14,5 @@ returns g c =
     let R = w.rows in
     let C = w.cols in
     matrix-made a.out.now (λ i. w.is i && (v.is i && o.is i)) o.long R C
-    (λ i. cellwise g.O.Operation.op (R i) (C i) (seen w R C _ c.rows_in-x.ensures i) (seen v R C _ c.rows_in-y.ensures i))
+    (λ i. cellwise g.O.Operation.op (R i) (C i) (seen w R C _ c.part_in-x.ensures i) (seen v R C _ c.part_in-y.ensures i))
     (shape-mat _ _ _) c.cellwise.ensures c.put_matrix.ensures

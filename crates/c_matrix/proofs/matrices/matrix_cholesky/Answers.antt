@@ -13,4 +13,4 @@ returns c =
     let o = whole a.n a.n a.out.now c.matrix-2.ensures c.in_ok-matrix.was in
     answer-handed a.out.now (λ i. w.is i && o.is i) o.long w.rows w.rows
     (λ i. cholesky (w.rows i) (seen w w.rows w.rows _ (c.four_rows-x.ensures _ (bounds _).most) i))
-    (λ B. shape-cholesky _ _ B) c.factor_of.ensures c.give_matrix.ensures
+    (λ B. shape-cholesky _ _ B) c.factor_of.ensures c.give_part.ensures

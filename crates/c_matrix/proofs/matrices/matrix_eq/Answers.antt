@@ -10,4 +10,4 @@ returns c =
     let w = whole a.r a.c a.a.now c.matrix.ensures c.in_ok-rows.was in
     let v = whole a.r a.c a.b.now c.matrix-2.ensures c.in_ok-matrix.was in
     value_handed _ (λ i. w.is i && v.is i) (alike-true _ _ w.shape)
-    (λ i. equal a.r a.c (read w w.rows w.cols _ c.rows_in-x.ensures i) (read v w.rows w.cols _ c.rows_in-y.ensures i)) c.eq.ensures c.give.ensures
+    (λ i. equal a.r a.c (read w w.rows w.cols _ c.part_in-x.ensures i) (read v w.rows w.cols _ c.part_in-y.ensures i)) c.eq.ensures c.give.ensures

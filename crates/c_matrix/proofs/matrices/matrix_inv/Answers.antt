@@ -29,5 +29,5 @@ returns c =
     let w = whole a.n a.n a.a.now c.matrix.ensures c.in_ok-size.was in
     let o = whole a.n a.n a.out.now c.matrix-2.ensures c.in_ok-matrix.was in
     answer-handed a.out.now (λ i. w.is i && o.is i) o.long w.rows w.rows
-    (λ i. inv (w.rows i) (seen w w.rows w.rows _ c.rows_in-x.ensures i))
-    (λ B. inv-shape _ _ B) c.inverse_of.ensures c.give_matrix.ensures
+    (λ i. inv (w.rows i) (seen w w.rows w.rows _ c.part_in-x.ensures i))
+    (λ B. inv-shape _ _ B) c.inverse_of.ensures c.give_part.ensures

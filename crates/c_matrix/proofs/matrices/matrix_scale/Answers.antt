@@ -11,4 +11,4 @@ returns c =
     let w = whole a.r a.c a.a.now c.matrix.ensures c.in_ok-rows.was in
     let o = whole a.r a.c a.out.now c.matrix-2.ensures c.in_ok-matrix.was in
     matrix-handed a.out.now (λ i. w.is i && o.is i) w.shape o.long w.rows w.cols
-    (λ i. scale a.r a.c (read w w.rows w.cols _ c.rows_in-x.ensures i) a.s) (shape-scale _ _ _ _) c.scale.ensures c.give_matrix.ensures
+    (λ i. scale a.r a.c (read w w.rows w.cols _ c.part_in-x.ensures i) a.s) (shape-scale _ _ _ _) c.scale.ensures c.give_part.ensures

@@ -7,4 +7,4 @@ pub returns : goal.returns
 returns c =
     let a = c.args in
     let w = whole a.n a.n a.a.now c.matrix.ensures c.in_ok-size.was in
-    value_handed _ w.is w.size (λ i. trace a.n (read w w.rows w.rows _ c.rows_in.ensures i)) c.trace.ensures c.give.ensures
+    value_handed _ w.is w.size (λ i. trace a.n (read w w.rows w.rows _ c.part_in.ensures i)) c.trace.ensures c.give.ensures

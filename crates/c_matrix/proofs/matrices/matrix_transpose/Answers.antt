@@ -11,5 +11,5 @@ returns c =
     let w = whole a.r a.c a.a.now c.matrix.ensures c.in_ok-rows.was in
     let o = whole a.c a.r a.out.now c.matrix-2.ensures c.in_ok-matrix.was in
     matrix-made a.out.now (λ i. w.is i && o.is i) o.long w.cols w.rows
-    (λ i. transpose (w.rows i) (w.cols i) (seen w w.rows w.cols _ c.rows_in-x.ensures i))
+    (λ i. transpose (w.rows i) (w.cols i) (seen w w.rows w.cols _ c.part_in-x.ensures i))
     (shape-transpose _ _ _) c.transposed.ensures c.put_matrix.ensures
