@@ -3,16 +3,17 @@
 // among them. Refused: a size, or a slice of another length.
 #![tactic(auto)]
 
-ghost use Rattle.std.specs.Prelude.{◌≡◌, ◌≤◌, ℕ, length};
+ghost use Rattle.std.specs.Prelude.{◌≡◌, ◌≤◌, ℕ, cond, length};
 ghost use Rattle.std.proofs.Math.Nat.{le_refl};
 ghost use Rattle.answer.specs.Answer.{where_sized};
 ghost use Rattle.answer.specs.Told.{written};
 ghost use Rattle.sizes.specs.Size.{count};
 ghost use Rattle.c_copies.specs.Filter.{places_by, is_filter_by, is_step_by, is_parts_by, new_by, state_by, square_by};
-ghost use Rattle.c_copies.specs.Filter.{new_in, reset_in, state_in, covariance_in};
+ghost use Rattle.c_copies.specs.Filter.{estimate_place, new_in, reset_in, state_in, covariance_in};
+ghost use Rattle.steps.specs.Step.{well_sized};
 
 use answer::Refusal;
-use sizes::{Size, fits};
+use sizes::{Size, fits, is_size, size_of};
 
 // ---- the noise of the measurements
 
@@ -95,6 +96,17 @@ fn place_parts<W: Noise>(n: Size, m: Size, i: Size) -> Places
         p,
         square,
         len: p + square,
+    }
+}
+
+// Where the estimate of the linear filter begins; 0 where a number is no size.
+pub fn place_of(n: usize, m: usize, i: usize) -> usize
+    ensures { result ≡ cond (well_sized n m i) (estimate_place n m i) 0 }
+{
+    if is_size(n) & (is_size(m) & is_size(i)) {
+        place_parts::<Full>(size_of(n), size_of(m), size_of(i)).x
+    } else {
+        0
     }
 }
 

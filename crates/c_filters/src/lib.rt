@@ -8,7 +8,7 @@ ghost use Rattle.c_copies.specs.Filter.{predict_in, update_in};
 
 use answer::Refusal;
 use c_copies::{Full, step};
-use c_roads::{is_plane, is_road, put_road, road_at};
+pub use c_roads::{is_plane, is_road, kalman_position_velocity, put_road, road_at};
 use sizes::fits;
 
 // ---- by rows. Inlined at each call, so that with literal sizes, a plane's, each part is read at a place that is a literal.

@@ -2,10 +2,10 @@
 // predicted state, predicted covariance; a smoothed pair is n + n² numbers.
 #![tactic(auto)]
 
-ghost use Rattle.std.specs.Prelude.{◌≡◌, ◌+◌, ◌*◌, ◌≤◌, ◌&&◌, drop, leb, length, take, IfOk};
+ghost use Rattle.std.specs.Prelude.{◌≡◌, ◌+◌, ◌*◌, ◌≤◌, ◌&&◌, cond, drop, leb, length, take, IfOk};
 ghost use Rattle.answer.specs.Answer.{mapped, where_sized};
-ghost use Rattle.sizes.specs.Size.{count, size_of};
-ghost use Rattle.layout.specs.Layout.{pair_length as pair_numbers_of, stride as stride_of};
+ghost use Rattle.sizes.specs.Size.{count, size_of, sized};
+ghost use Rattle.layout.specs.Layout.{pair_length as pair_numbers_of, stride as slot_numbers_of};
 ghost use Rattle.duty.specs.Buffer.{roomy, counted, buffered, smoothable, stored_slot, slot_place};
 ghost use Rattle.duty.specs.Promise.{Refusals};
 
@@ -28,15 +28,26 @@ pub fn pair_length(n: Size) -> usize
 
 // How many numbers a slot takes.
 pub fn stride(n: Size) -> usize
-    ensures { result ≡ stride_of (count n) }
+    ensures { result ≡ slot_numbers_of (count n) }
 {
     2 * pair_length(n)
 }
 
+// The same by a number, 0 where it is no size.
+pub fn stride_of(n: usize) -> usize
+    ensures { result ≡ cond (sized n) (slot_numbers_of n) 0 }
+{
+    if sizes::is_size(n) {
+        stride(sizes::size_of(n))
+    } else {
+        0
+    }
+}
+
 // Slot k, as that part of the buffer itself.
 fn numbers_of(slots: &[f64], k: usize, n: Size) -> &[f64]
-    requires { k * stride_of (count n) + stride_of (count n) ≤ length slots.now }
-    ensures value { result.now ≡ take (stride_of (count n)) (drop (k * stride_of (count n)) slots.now) }
+    requires { k * slot_numbers_of (count n) + slot_numbers_of (count n) ≤ length slots.now }
+    ensures value { result.now ≡ take (slot_numbers_of (count n)) (drop (k * slot_numbers_of (count n)) slots.now) }
     ensures place { result.ref_ptr ≡ slot_place (count n) k slots.entry.ref_ptr }
 {
     let numbers = stride(n);
