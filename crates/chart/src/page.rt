@@ -33,7 +33,9 @@ impl<'a> Page<'a> {
         self.bytes.len()
     }
 
-    fn put(&mut self, b: u8) -> fmt::Result {
+    fn put(&mut self, b: u8) -> fmt::Result
+        ensures { length self.new.bytes.now ≡ length self.old.bytes.now }
+    {
         if self.len < self.bytes.len() {
             self.bytes[self.len] = b;
             self.len += 1;
@@ -41,13 +43,20 @@ impl<'a> Page<'a> {
         }
         Err(fmt::Error)
     }
-}
 
-impl fmt::Write for Page<'_> {
-    fn write_str(&mut self, s: &str) -> fmt::Result {
+    // A text, as much of it as has room. The page is as long as before, also where the text had no room.
+    pub fn text(&mut self, s: &str) -> fmt::Result
+        ensures { length self.new.bytes.now ≡ length self.old.bytes.now }
+    {
         for b in s.as_bytes() {
             self.put(*b)?;
         }
         Ok(())
+    }
+}
+
+impl fmt::Write for Page<'_> {
+    fn write_str(&mut self, s: &str) -> fmt::Result {
+        self.text(s)
     }
 }

@@ -72,8 +72,10 @@ fn heading(page: &mut Page, slots: &[Slot]) -> fmt::Result {
     )
 }
 
-fn legend(page: &mut Page) -> fmt::Result {
-    page.write_str(
+fn legend(page: &mut Page) -> fmt::Result
+    ensures { page.new.len ≤ length page.old.bytes.now }
+{
+    page.text(
         "<circle class='r' cx='1060' cy='5185' r='40'/><text x='1160' y='5230'>reading</text>\n\
         <path class='s' d='M2080 5185h260'/><path class='d' d='M2340 5185h360'/>\
         <text x='2800' y='5230'>smoothed position, dashed: no reading</text>\n\
