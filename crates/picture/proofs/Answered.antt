@@ -2,7 +2,7 @@
 use mathlib.Core.Path.{◌≡◌, refl, sym, ap, ◌∙◌}
 use mathlib.Core.List.{List, map}
 use Prim.Native.Nat.{ℕ}
-use lib.ListN.{length}
+use lib.ListN.{length, take}
 use Rattle.std.specs.Prelude.{Result, Ok, Err, IsOk}
 use Rattle.answer.specs.Told.{number}
 use Rattle.sheets.specs.declared.SheetRefusal.{SheetRefusal}
@@ -31,6 +31,6 @@ is_read s (Ok d) e other = refl
 is_read s (Err w) e other = let h : read_sheet s ≡ Err w = mapped_err sheet_held (read_sheet s) w e in stands s other w (rw h)
 
 pub is_tracked : (s : List ℕ) (d : SheetRead) (r : Result Positions Rejected) → Ok d ≡ mapped sheet_held (read_sheet s)
-    → r ≡ track_in (settings_held d) (map measured_of d.readings.items) → (length (report s) ≡ 17 → ⊥) → IsOk r
+    → r ≡ track_in (settings_held d) (map measured_of (take d.count d.readings)) → (length (report s) ≡ 17 → ⊥) → IsOk r
 is_tracked s d (Ok q) p e other = refl
 is_tracked s d (Err k) p e other = stands s other _ (lines_err s d p k e)

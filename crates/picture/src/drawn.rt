@@ -51,14 +51,15 @@ pub(crate) fn draw_sheet(sheet: &[u8], page: &mut [u8]) -> usize
 {
     let sheet = read_sheet(sheet).unwrap();
     let positions = positions_of(&sheet).unwrap();
-    let ends = sheet.ends.as_slice();
+    let ends = sheet.ends();
+    let readings = sheet.readings();
     let mut slots = [Slot {
         reading: None,
         smoothed: 0,
         moved: None,
     }; 64];
     let places = positions.filtered.iter().zip(&positions.smoothed);
-    let found = sheet.readings.as_slice().iter().zip(places);
+    let found = readings.iter().zip(places);
     for (slot, (reading, (filtered, smoothed))) in slots.iter_mut().zip(found) {
         slot.reading = reading.map(place_of);
         slot.smoothed = place(*smoothed);
@@ -69,7 +70,7 @@ pub(crate) fn draw_sheet(sheet: &[u8], page: &mut [u8]) -> usize
         Duty {
             step: sheet.step,
             ends,
-            slots: &slots[..sheet.readings.len()],
+            slots: &slots[..readings.len()],
         },
     )
 }

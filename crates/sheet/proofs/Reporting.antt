@@ -1,10 +1,11 @@
 -- What is printed of a sheet by what the code holds of it, step after step. Assumes nothing.
-use mathlib.Core.Path.{◌≡◌, sym, ap, ◌∙◌, subst}
+use mathlib.Core.Path.{◌≡◌, refl, sym, ap, ◌∙◌, subst}
 use mathlib.Core.List.{List, map}
 use Prim.Native.Nat.{ℕ, ◌+◌}
 use lib.IntN.{ℤ}
 use lib.ListN.{length, take}
-use Rattle.std.specs.Prelude.{Ok, Err}
+use lib.Seq.{take_at}
+use Rattle.std.specs.Prelude.{Option, Ok, Err}
 use Rattle.arrayvec.specs.ArrayVec.{ArrayVec}
 use Rattle.answer.specs.declared.Refusal.TheVariants.{SingularMatrix}
 use Rattle.tracking.specs.Track.{rejected}
@@ -53,31 +54,44 @@ module _ (s : List ℕ) (sh : Sheet) (a : read_sheet s ≡ Ok sh) where
 
 -- ---- the same of what the code holds
 
+abbrev ends_in : SheetRead → List ℕ
+ends_in d = take d.stages d.ends
+
+abbrev readings_in : SheetRead → List (Option ℤ)
+readings_in d = take d.count d.readings
+
+module _ (sh : Sheet) where
+  ends_back : ends_in (sheet_held sh) ≡ sh.ends
+  ends_back = take_at sh.ends _ (length sh.ends) refl
+
+  readings_back : readings_in (sheet_held sh) ≡ sh.readings
+  readings_back = take_at sh.readings _ (length sh.readings) refl
+
 module _ (s : List ℕ) (d : SheetRead) (p : Ok d ≡ mapped sheet_held (read_sheet s)) where
-  pub lines_err : (k : Rejected) → Err k ≡ track_in (settings_held d) (map measured_of d.readings.items) → refused SingularMatrix (2 + length d.ends.items + k.reading) ≡ then (read_sheet s) answer_of
+  pub lines_err : (k : Rejected) → Err k ≡ track_in (settings_held d) (map measured_of (readings_in d)) → refused SingularMatrix (2 + length (ends_in d) + k.reading) ≡ then (read_sheet s) answer_of
   lines_err k =
       let (sh, a, b) = mapped-given sheet_held (read_sheet s) d (sym p) in
       subst
-      (λ (y : SheetRead). Err k ≡ track_in (settings_held y) (map measured_of y.readings.items) → refused SingularMatrix (2 + length y.ends.items + k.reading) ≡ then (read_sheet s) answer_of) b
-      (sheet_err s sh a k)
+      (λ (y : SheetRead). Err k ≡ track_in (settings_held y) (map measured_of (readings_in y)) → refused SingularMatrix (2 + length (ends_in y) + k.reading) ≡ then (read_sheet s) answer_of) b
+      (rw (ends_back sh, readings_back sh) (sheet_err s sh a k))
 
   module _ (q : Positions) where
-    pub lines_bad : Ok q ≡ track_in (settings_held d) (map measured_of d.readings.items) → (w : SheetRefusal)
-        → Err w ≡ mapped metres_held (all_metres (2 + length d.ends.items) (take (length d.readings.items) q.smoothed)) → Err w ≡ then (read_sheet s) answer_of
+    pub lines_bad : Ok q ≡ track_in (settings_held d) (map measured_of (readings_in d)) → (w : SheetRefusal)
+        → Err w ≡ mapped metres_held (all_metres (2 + length (ends_in d)) (take (length (readings_in d)) q.smoothed)) → Err w ≡ then (read_sheet s) answer_of
     lines_bad =
         let (sh, a, b) = mapped-given sheet_held (read_sheet s) d (sym p) in
         subst
-        (λ (y : SheetRead). Ok q ≡ track_in (settings_held y) (map measured_of y.readings.items) → (w : SheetRefusal)
-        → Err w ≡ mapped metres_held (all_metres (2 + length y.ends.items) (take (length y.readings.items) q.smoothed)) → Err w ≡ then (read_sheet s) answer_of) b
-        (sheet_bad s sh a q)
+        (λ (y : SheetRead). Ok q ≡ track_in (settings_held y) (map measured_of (readings_in y)) → (w : SheetRefusal)
+        → Err w ≡ mapped metres_held (all_metres (2 + length (ends_in y)) (take (length (readings_in y)) q.smoothed)) → Err w ≡ then (read_sheet s) answer_of) b
+        (rw (ends_back sh, readings_back sh) (sheet_bad s sh a q))
 
-    pub lines_good : Ok q ≡ track_in (settings_held d) (map measured_of d.readings.items) → (v : ArrayVec ℤ)
-        → Ok v ≡ mapped metres_held (all_metres (2 + length d.ends.items) (take (length d.readings.items) q.smoothed))
-        → Ok (readings_text 1 d.ends.items v.items) ≡ then (read_sheet s) answer_of
+    pub lines_good : Ok q ≡ track_in (settings_held d) (map measured_of (readings_in d)) → (v : ArrayVec ℤ)
+        → Ok v ≡ mapped metres_held (all_metres (2 + length (ends_in d)) (take (length (readings_in d)) q.smoothed))
+        → Ok (readings_text 1 (ends_in d) v.items) ≡ then (read_sheet s) answer_of
     lines_good =
         let (sh, a, b) = mapped-given sheet_held (read_sheet s) d (sym p) in
         subst
-        (λ (y : SheetRead). Ok q ≡ track_in (settings_held y) (map measured_of y.readings.items) → (v : ArrayVec ℤ)
-        → Ok v ≡ mapped metres_held (all_metres (2 + length y.ends.items) (take (length y.readings.items) q.smoothed))
-        → Ok (readings_text 1 y.ends.items v.items) ≡ then (read_sheet s) answer_of) b
-        (sheet_good s sh a q)
+        (λ (y : SheetRead). Ok q ≡ track_in (settings_held y) (map measured_of (readings_in y)) → (v : ArrayVec ℤ)
+        → Ok v ≡ mapped metres_held (all_metres (2 + length (ends_in y)) (take (length (readings_in y)) q.smoothed))
+        → Ok (readings_text 1 (ends_in y) v.items) ≡ then (read_sheet s) answer_of) b
+        (rw (ends_back sh, readings_back sh) (sheet_good s sh a q))

@@ -1,11 +1,9 @@
 -- What the code holds of a sheet on its way from readings to lines. Definitions only.
-use Rattle.std.specs.Prelude.{List, ℕ, ℤ, pos}
+use Rattle.std.specs.Prelude.{List, ℤ, pos}
 use Rattle.arrayvec.specs.ArrayVec.{ArrayVec}
-use Rattle.sheets.specs.Output.{readings_text}
 use Rattle.sheets.specs.Report.{float_of}
 use Rattle.sheet_reader.specs.declared.SheetRead.{SheetRead}
 use Rattle.tracker.specs.declared.Settings.{Settings}
-use Rattle.sheet.specs.declared.lines.Lines.{Lines}
 
 -- what the tracker is handed
 abbrev pub settings_held : SheetRead → Settings
@@ -13,7 +11,3 @@ settings_held d = record { step = float_of (pos d.step); process = float_of (pos
 
 abbrev pub metres_held : List ℤ → ArrayVec ℤ
 metres_held zs = record { items = zs }
-
--- the text of lines
-abbrev pub lines_said : Lines → List ℕ
-lines_said x = readings_text 1 x.ends.items x.metres.items

@@ -7,7 +7,9 @@ ghost use Rattle.sheets.specs.Report.{report as report_of};
 ghost use Rattle.sheet.specs.Call.{report_told, report_left, report_in};
 
 use answer::Refusal;
-use printing::{ROOM, report_text};
+use arrayvec::ArrayVec;
+use lines::put_report;
+use printing::ROOM;
 use sizes::fits;
 
 mod lines;
@@ -21,7 +23,8 @@ pub fn report(sheet: &[u8], output: &mut [u8]) -> Result<usize, Refusal>
         × (output.new ≡ report_left (report_of sheet.now) output.old) }
 {
     fits(ROOM <= output.len())?;
-    let text = report_text(sheet);
+    let mut text = ArrayVec::new();
+    put_report(&mut text, sheet);
     output[..text.len()].copy_from_slice(text.as_slice());
     Ok(text.len())
 }

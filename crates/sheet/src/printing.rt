@@ -1,9 +1,7 @@
 // The bytes of a report: lines of fields, one after another.
 ghost use Rattle.std.specs.Prelude.{◌≡◌, ◌+◌, ◌*◌, ◌≤◌, ◌++◌, length};
 ghost use Rattle.sheets.specs.Output.{line_text, readings_text};
-ghost use Rattle.sheets.specs.Report.{report};
 
-use crate::lines::lines_of;
 use crate::seen::stage;
 use arrayvec::ArrayVec;
 use sheet_text::write_field;
@@ -12,7 +10,7 @@ use sheet_text::write_field;
 pub(crate) const ROOM: usize = 1600;
 
 // A line of numbers.
-fn put_line(text: &mut ArrayVec<u8, ROOM>, numbers: &[i64])
+pub(crate) fn put_line(text: &mut ArrayVec<u8, ROOM>, numbers: &[i64])
     requires { length text.old.items + 8 * length numbers.now + 1 ≤ 1600 }
     ensures { text.new.items ≡ text.old.items ++ line_text numbers.now }
 {
@@ -23,26 +21,11 @@ fn put_line(text: &mut ArrayVec<u8, ROOM>, numbers: &[i64])
 }
 
 // A line for each reading: its number from 1, its whole metres, its stage.
-fn put_lines(text: &mut ArrayVec<u8, ROOM>, ends: &[u32], metres: &[i64])
+pub(crate) fn put_lines(text: &mut ArrayVec<u8, ROOM>, ends: &[u32], metres: &[i64])
     requires { (length text.old.items + 25 * length metres.now ≤ 1600) × (length ends.now ≤ 32) }
     ensures { text.new.items ≡ text.old.items ++ readings_text 1 ends.now metres.now }
 {
     for (i, m) in metres.iter().enumerate() {
         put_line(text, &[i as i64 + 1, *m, stage(ends, *m) as i64]);
     }
-}
-
-// The report of a sheet.
-pub(crate) fn report_text(sheet: &[u8]) -> ArrayVec<u8, ROOM>
-    ensures { result.items ≡ report sheet.now }
-{
-    let mut text = ArrayVec::new();
-    match lines_of(sheet) {
-        Ok(lines) => put_lines(&mut text, lines.ends.as_slice(), lines.metres.as_slice()),
-        Err(refused) => {
-            let number = u8::from(refused.refusal);
-            put_line(&mut text, &[i64::from(number), i64::from(refused.line)]);
-        }
-    }
-    text
 }

@@ -1,5 +1,5 @@
 // What may be asked of a sheet that was read: the positions of its readings, and the stage of whole metres.
-ghost use Rattle.std.specs.Prelude.{◌≡◌, ◌<◌, ◌≤◌, int_le, length, map, position, pos, IfErr};
+ghost use Rattle.std.specs.Prelude.{◌≡◌, ◌<◌, ◌≤◌, int_le, length, map, position, pos, take, IfErr};
 ghost use Rattle.sheets.specs.Report.{measured_of};
 ghost use Rattle.sheets.specs.Stage.{stage_of};
 ghost use Rattle.tracker.specs.Tracked.{track_in};
@@ -35,10 +35,10 @@ fn float_readings(readings: &[Option<i64>]) -> ArrayVec<Option<f64>, 64>
 
 // The positions of a sheet's readings, filtered and smoothed; or the reading that is rejected.
 pub fn positions_of(sheet: &SheetRead) -> Result<Positions, Rejected>
-    ensures positions { result ≡ track_in (settings_held sheet.now) (map measured_of sheet.now.readings.items) }
+    ensures positions { result ≡ track_in (settings_held sheet.now) (map measured_of (take sheet.now.count sheet.now.readings)) }
     ensures placed { IfErr result (λ e. e.reading < 64) }
 {
-    let readings = float_readings(sheet.readings.as_slice());
+    let readings = float_readings(sheet.readings());
     track(settings_of(sheet), readings.as_slice())
 }
 

@@ -1,6 +1,6 @@
 -- What the code holds of a sheet that it reads. Definitions only.
-use Rattle.std.specs.Prelude.{Bool, cond, List, [], map, ℕ, ℤ, nat_abs, Option, Some, None}
-use Rattle.arrayvec.specs.ArrayVec.{ArrayVec}
+use Rattle.std.specs.Prelude.{Bool, cond, List, [], map, ℕ, ℤ, nat_abs, length, Option, Some, None}
+use Rattle.answer.specs.Table.{pad_to}
 use Rattle.sheets.specs.Line.{form, nth, values}
 use Rattle.sheets.specs.Sheet.{Sheet, only, end_of, head_test, reading_of, stages_of, readings_of}
 use Rattle.sheet_reader.specs.declared.SheetRead.{SheetRead}
@@ -20,15 +20,15 @@ head_in h = cond (head_test [] h) (Some (row_held h)) None
 abbrev pub head_held : List (List ℤ) → Head
 head_held rows = row_held (only rows)
 
--- what rows say, one after another
-abbrev pub rows_held : {T : Type 0} → (List ℤ → T) → List (List ℤ) → ArrayVec T
-rows_held says rows = record { items = map says rows }
+-- what rows say, one after another, in an array of m places
+abbrev pub rows_held : {T : Type 0} → ℕ → (List ℤ → T) → List (List ℤ) → List T
+rows_held m says rows = pad_to m (says []) (map says rows)
 
-abbrev pub ends_held : List (List ℤ) → ArrayVec ℕ
-ends_held = rows_held end_of
+abbrev pub ends_held : List (List ℤ) → List ℕ
+ends_held = rows_held 32 end_of
 
-abbrev pub readings_held : List (List ℤ) → ArrayVec (Option ℤ)
-readings_held = rows_held reading_of
+abbrev pub readings_held : List (List ℤ) → List (Option ℤ)
+readings_held = rows_held 64 reading_of
 
 abbrev pub sheet_held : Sheet → SheetRead
 sheet_held sh =
@@ -36,8 +36,10 @@ sheet_held sh =
       step = sh.step;
       process = sh.process;
       measurement = sh.measurement;
-      ends = record { items = sh.ends };
-      readings = record { items = sh.readings };
+      stages = length sh.ends;
+      count = length sh.readings;
+      ends = pad_to 32 0 sh.ends;
+      readings = pad_to 64 None sh.readings;
     }
 
 -- what a line's numbers say where they are in range, by what the line before said; and the test of them by the numbers before

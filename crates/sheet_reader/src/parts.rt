@@ -7,7 +7,6 @@ ghost use Rattle.sheet_reader.specs.Held.{ends_held, readings_held, rows_held, s
 
 use crate::lines::{at_line, line};
 use answer::Refusal;
-use arrayvec::ArrayVec;
 use sheets::SheetRefusal;
 
 // What a line of K numbers says, where they are in range after what the line before said.
@@ -62,31 +61,31 @@ impl Row<2> for Option<i64> {
     }
 }
 
-// n lines, the first of which stands on line `first` of the sheet and at byte `from`.
+// n lines, the first of which stands on line `first` of the sheet and at byte `from`; after them stand defaults.
 fn read_rows<R: Row<K>, const K: usize, const N: usize>(
     s: &[u8],
     first: u32,
     from: usize,
     n: usize,
-) -> Result<ArrayVec<R, N>, SheetRefusal>
+) -> Result<[R; N], SheetRefusal>
     requires { (first ≤ 34) × (from ≤ 329) × (n ≤ 64) × (n ≤ N) × (K ≤ 2) }
-    ensures { result ≡ mapped (rows_held R.says) (read_lines K (test_by R.says R.in_range) n [] first from s.now) }
+    ensures { result ≡ mapped (rows_held N R.says) (read_lines K (test_by R.says R.in_range) n [] first from s.now) }
 {
-    let mut rows = ArrayVec::new();
     let mut before = R::default();
+    let mut rows = [before; N];
     // The index is a line's number and its place among the bytes.
     for i in 0..n {
         let number = first + i as u32;
         let at = from + (8 * K + 1) * i;
         let numbers = line::<K>(s, at).ok_or(at_line(Refusal::BadForm, number))?;
         before = R::after(before, numbers).ok_or(at_line(Refusal::OutOfRange, number))?;
-        rows.push(before);
+        rows[i] = before;
     }
     Ok(rows)
 }
 
 // The ends of n stages.
-pub(crate) fn read_ends(s: &[u8], n: usize) -> Result<ArrayVec<u32, 32>, SheetRefusal>
+pub(crate) fn read_ends(s: &[u8], n: usize) -> Result<[u32; 32], SheetRefusal>
     requires { n ≤ 32 }
     ensures { result ≡ mapped ends_held (read_ends n s.now) }
 {
@@ -99,7 +98,7 @@ pub(crate) fn read_readings(
     first: u32,
     from: usize,
     n: usize,
-) -> Result<ArrayVec<Option<i64>, 64>, SheetRefusal>
+) -> Result<[Option<i64>; 64], SheetRefusal>
     requires { (first ≤ 34) × (from ≤ 329) × (n ≤ 64) }
     ensures { result ≡ mapped readings_held (read_lines 2 reading_test n [] first from s.now) }
 {

@@ -79,10 +79,10 @@ fn filter(f: Road, readings: &[Option<f64>], slots: &mut [f64]) -> Result<(), Re
 
 // ---- all readings
 
-// The first stored slots smoothed, with the transition a; or the slot at which that is refused.
-fn smoothed(slots: [f64; 768], stored: usize, a: Two) -> Result<Positions, Rejected>
-    requires { stored ≤ 64 }
-    ensures { result ≡ smoothed_of (matrix_of a) (slots_of 2 slots stored) }
+// The first stored slots smoothed, with the transition a; or the slot at which that is refused. Lent: a copy would be 6 KB of stack.
+fn smoothed(slots: &[f64], stored: usize, a: Two) -> Result<Positions, Rejected>
+    requires { (stored ≤ 64) × (length slots.now ≡ 768) }
+    ensures { result ≡ smoothed_of (matrix_of a) (slots_of 2 slots.now stored) }
 {
     let mut pairs = [0.0; 384];
     let transition = [
@@ -96,12 +96,12 @@ fn smoothed(slots: [f64; 768], stored: usize, a: Two) -> Result<Positions, Rejec
         room: ControlScalar::MAX_SLOTS,
         count: stored,
     };
-    match rts_pass::smooth(&slots[..], room, transition, &mut pairs[..]) {
+    match rts_pass::smooth(slots, room, transition, &mut pairs[..]) {
         Ok(()) => Ok(Positions {
-            filtered: gathered(&slots[..], 12, stored),
+            filtered: gathered(slots, 12, stored),
             smoothed: gathered(&pairs[..], 6, stored),
         }),
-        Err(_) => match latest_rejected(&slots[..], stored) {
+        Err(_) => match latest_rejected(slots, stored) {
             Some(reading) => Err(Rejected { reading }),
             None => Ok(Positions {
                 filtered: [0.0; 64],
@@ -119,5 +119,5 @@ pub fn track(settings: Settings, readings: &[Option<f64>]) -> Result<Positions, 
     let used = readings.len().min(ControlScalar::MAX_SLOTS);
     let mut slots = [0.0; 768];
     filter(f, &readings[..used], &mut slots[..])?;
-    smoothed(slots, used, f.motion.a)
+    smoothed(&slots[..], used, f.motion.a)
 }
