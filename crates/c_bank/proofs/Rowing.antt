@@ -7,7 +7,7 @@ use native.Mathlib.Numerals.{add-one}
 use native.Mathlib.Omega.{arith}
 use lib.ListN.{length, replicate}
 use lib.Ieee.{Float, nan}
-use Rattle.scalar.specs.Number.{◌⊕◌, ◌⊖◌, ◌⊗◌, +0}
+use Rattle.scalar.specs.Number.{◌⊕◌, +0}
 use Rattle.answer.specs.Table.{table, pad_to}
 use Rattle.answer.proofs.Tables.{get_or-table, table_ext, length-table}
 use Rattle.algebra.specs.Matrix.{Matrix, at, cell, sum_from, sum_of}
@@ -22,14 +22,6 @@ use Rattle.c_bank.proofs.Series.{series-same, series-after, series-past, length-
 
 pub length-mixed : (N K step : ℕ) (x m w : Matrix) (b : List Float) (q r j : ℕ) → length (mixed_row_in N K step x m w b q r j) ≡ N
 length-mixed N K step x m w b q r j = length-table N _
-
--- the numbers of row r of model j, by the deviations and the weights of four models of which K are used
-pub mixed_is : (K : ℕ) (p x m w : Matrix) (j r : ℕ) {v : List Float} → K ≤ 4
-    → v ≡ table 4 (λ c. sum_of K (λ i. (cell p i c ⊕ (+0 ⊕ at (table 4 (λ i. cell x i r ⊖ cell m j r)) i ⊗ (cell x i c ⊖ cell m j c))) ⊗ at (table 4 (λ i. cell w i j)) i))
-    → v ≡ table 4 (λ c. sum_of K (λ i. spread_term (cell p i c) (cell x i r) (cell m j r) (cell x i c) (cell m j c) (cell w i j)))
-mixed_is K p x m w j r few e =
-    e ∙ table_ext 4 _ _ (λ c g. sum_ext K _ _
-    (λ i h. λ z. (cell p i c ⊕ (+0 ⊕ get_or-table 4 (λ i. cell x i r ⊖ cell m j r) i nan (le_trans h few) z ⊗ (cell x i c ⊖ cell m j c))) ⊗ get_or-table 4 (λ i. cell w i j) i nan (le_trans h few) z))
 
 -- one row, of the rows p of all models
 pub row_is : (N K step : ℕ) (x m w : Matrix) (b : List Float) (q r j : ℕ) {p : Matrix} {v : List Float} → N ≤ 4

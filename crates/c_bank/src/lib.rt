@@ -23,12 +23,33 @@ pub use places::Places;
 
 // ---- the steps
 
-// The first n numbers of v, from number k on.
+// The first n numbers of v, from number k on, as layout::put_vector has it without its test of the room.
+#[tactic(auto, using(layout::proofs::Loops::writing_out, crate::proofs::Spaced::write_back))]
 fn put_row(b: &mut [f64], k: usize, v: [f64; 4], n: Size)
     requires { k + count n ≤ length b.old }
     ensures { b.new ≡ placed k (front n v) b.old }
 {
-    layout::put_vector(b, k, v, n);
+    match n {
+        Size::One => {
+            b[k] = v[0];
+        }
+        Size::Two => {
+            b[k] = v[0];
+            b[k + 1] = v[1];
+        }
+        Size::Three => {
+            b[k] = v[0];
+            b[k + 1] = v[1];
+            b[k + 2] = v[2];
+        }
+        // From the last down: where all sizes begin with the same number, a compiler pairs the others across the two halves of a row.
+        Size::Four => {
+            b[k + 3] = v[3];
+            b[k + 2] = v[2];
+            b[k + 1] = v[1];
+            b[k] = v[0];
+        }
+    }
 }
 
 // Row j of m as the state of model j, for each model.
