@@ -3,7 +3,7 @@
 ghost use Rattle.std.specs.Prelude.{◌≡◌, ◌↔◌, ◌<◌, ◌≤◌, IsTrue, IsNone, IfSome};
 ghost use Rattle.protocol.specs.Left.{left};
 
-use crate::words::{Value, cut};
+use crate::words::{Value, cut, text_of};
 use answer::Refusal;
 use std::num::f64_to_bits_with_nan;
 
@@ -41,7 +41,11 @@ impl<'a> Answer<'a> {
         ensures { IfSome result (λ a. left a < left self.entry) }
     {
         let (word, rest) = self.word()?;
-        if word == text { Some(rest) } else { None }
+        if text_of(word)? == text {
+            Some(rest)
+        } else {
+            None
+        }
     }
 
     pub fn count(self, n: u64) -> Option<Answer<'a>>

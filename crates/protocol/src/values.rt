@@ -1,7 +1,7 @@
 // What is left of the values of a call, from which each method takes the next.
-ghost use Rattle.std.specs.Prelude.{◌≡◌, ◌↔◌, ◌≤◌, IsTrue, length, map, take, drop, IfSome, slice_get};
+ghost use Rattle.std.specs.Prelude.{◌≡◌, ◌↔◌, ◌≤◌, IsTrue, length, map, take, drop, IfSome, slice_get, get_or};
 ghost use Rattle.std.specs.Option.{option_map};
-ghost use Rattle.std.specs.Float.{binary64};
+ghost use Rattle.std.specs.Float.{binary64, nan};
 ghost use Rattle.std.specs.Float.Ieee.{to_bits};
 
 use crate::filter::Letter;
@@ -42,6 +42,22 @@ impl<'a> Values<'a> {
         Some(self.whole()? as usize)
     }
 
+    // The next number; a NaN where there is none.
+    pub fn number_or_nan(&mut self) -> f64
+        ensures value { result ≡ get_or self.old.rest.now 0 nan }
+        ensures rest { self.new.rest.now ≡ drop 1 self.old.rest.now }
+    {
+        self.number().unwrap_or(f64::NAN)
+    }
+
+    // The next size; the bits of a NaN where there is none.
+    pub fn size_or_nan(&mut self) -> usize
+        ensures value { result ≡ to_bits binary64 (get_or self.old.rest.now 0 nan) }
+        ensures rest { self.new.rest.now ≡ drop 1 self.old.rest.now }
+    {
+        f64_to_bits_with_nan(self.number_or_nan()) as usize
+    }
+
     // The next three.
     pub fn sizes(&mut self) -> Option<[usize; 3]>
         ensures value { IfSome result (λ sizes. sizes ≡ map (to_bits binary64) (take 3 self.old.rest.now)) }
@@ -65,6 +81,16 @@ impl<'a> Values<'a> {
         let (part, rest) = self.rest.split_at_checked(n)?;
         self.rest = rest;
         Some(part)
+    }
+
+    // What there is of the next n.
+    pub fn part(&mut self, n: usize) -> &'a [f64]
+        ensures value { result.now ≡ take n self.old.rest.now }
+        ensures rest { self.new.rest.now ≡ drop n self.old.rest.now }
+    {
+        let (part, rest) = self.rest.split_at(n.min(self.rest.len()));
+        self.rest = rest;
+        part
     }
 
     pub fn letter(&mut self) -> Option<Letter>

@@ -53,6 +53,31 @@ fn whole(word: &[u8], base: u32) -> Option<u64>
     })
 }
 
+// A decimal whole number; of more than 19 digits the first are dropped.
+fn decimal(word: &[u8]) -> Option<u64> {
+    let (dropped, kept) = word.split_at(word.len().saturating_sub(19));
+    if dropped.iter().all(|b| b.is_ascii_digit()) {
+        whole(kept, 10)
+    } else {
+        None
+    }
+}
+
+// What a text says: its last eight bytes, without the NULs that lead. A word that is a number by its length or its first byte is none.
+pub(crate) fn text_of(word: &[u8]) -> Option<&[u8]> {
+    if word.len() == 16 {
+        return None;
+    }
+    match word {
+        [] | [b'0'..=b'9' | b'-', ..] => None,
+        _ => {
+            let last = &word[word.len().saturating_sub(8)..];
+            let nuls = last.iter().position(|b| *b != 0).unwrap_or(last.len());
+            Some(&last[nuls..])
+        }
+    }
+}
+
 impl Value {
     // The value of a word, if it is one of the protocol's calls.
     pub(crate) fn of(word: &[u8]) -> Option<Value> {
@@ -60,11 +85,13 @@ impl Value {
             return Some(Value::Number(whole(word, 16)?));
         }
         match word {
-            b"nan" => Some(Value::Number(NAN)),
-            [b'0'..=b'9', ..] => Some(Value::Whole(whole(word, 10)?)),
-            [b'-', _, ..] => Some(Value::Whole(SIGN + whole(&word[1..], 10)? % SIGN)),
-            [letter] => Some(Value::Letter(Letter::try_from(*letter).ok()?)),
-            _ => None,
+            [b'0'..=b'9', ..] => Some(Value::Whole(decimal(word)?)),
+            [b'-', _, ..] => Some(Value::Whole(SIGN + decimal(&word[1..])? % SIGN)),
+            _ => match text_of(word)? {
+                b"nan" => Some(Value::Number(NAN)),
+                [letter] => Some(Value::Letter(Letter::try_from(*letter).ok()?)),
+                _ => None,
+            },
         }
     }
 

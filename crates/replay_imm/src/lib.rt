@@ -21,9 +21,11 @@ struct Sizes {
 }
 
 impl Sizes {
-    fn read(words: &mut Values<'_>) -> Option<Sizes> {
-        let [n, m, k] = words.sizes()?;
-        Some(Sizes { n, m, k })
+    fn read(words: &mut Values<'_>) -> Sizes {
+        let n = words.size_or_nan();
+        let m = words.size_or_nan();
+        let k = words.size_or_nan();
+        Sizes { n, m, k }
     }
 
     // The numbers of a model: a, x, p, q and a likelihood.
@@ -54,16 +56,16 @@ impl Sizes {
     }
 }
 
-// ---- what a bank leaves: its probabilities, and each model's state, covariance and likelihood
+// ---- what a bank leaves: its probabilities, and each model's state, covariance and likelihood, for four models at most
 
 fn model_left<'a>(s: Sizes, model: &[f64], given: Answer<'a>) -> Option<Answer<'a>>
     ensures { IfSome result (λ a. left a ≤ left given.entry) }
 {
     let square = cells(s.n, s.n);
     let mut parts = Values::new(model);
-    parts.take(square)?;
-    let estimate = parts.take(cells(s.n, 1) + square)?;
-    parts.take(square)?;
+    parts.part(square);
+    let estimate = parts.part(cells(s.n, 1) + square);
+    parts.part(square);
     given.numbers(estimate)?.numbers(parts.numbers())
 }
 
@@ -71,12 +73,12 @@ fn left<'a>(s: Sizes, bank: &[f64], given: Answer<'a>) -> Option<Answer<'a>>
     ensures { IfSome result (λ a. left a ≤ left given.entry) }
 {
     let mut parts = Values::new(bank);
-    let models = parts.take(s.models())?;
-    parts.take(cells(s.k, s.k))?;
-    parts.take(cells(s.m, s.n))?;
-    parts.take(cells(s.m, s.m))?;
+    parts.part(s.models());
+    parts.part(cells(s.k, s.k));
+    parts.part(cells(s.m, s.n));
+    parts.part(cells(s.m, s.m));
     let mut left = given.text(b"|")?.numbers(parts.numbers())?;
-    for model in models.chunks_exact(s.model()) {
+    for model in bank.chunks(s.model()).take(s.k.min(4)) {
         left = model_left(s, model, left)?;
     }
     Some(left)
@@ -84,13 +86,20 @@ fn left<'a>(s: Sizes, bank: &[f64], given: Answer<'a>) -> Option<Answer<'a>>
 
 // ---- operations, and what they tell
 
-// The bank of the words.
-fn make(s: Sizes, words: &mut Values<'_>, bank: &mut [f64]) -> Option<Result<(), Refusal>> {
-    let models = words.take(s.models())?;
-    let transition = words.take(cells(s.k, s.k))?;
-    let c = words.take(cells(s.m, s.n))?;
-    let r = words.take(cells(s.m, s.m))?;
-    Some(imm::estimators_imm_new(s.n, s.m, s.k, models, transition, c, r, bank))
+// The bank of the words. Words that end early are refused.
+fn make(s: Sizes, mut words: Values<'_>, bank: &mut [f64]) -> Result<(), Refusal> {
+    let models = words.part(s.models());
+    let transition = words.part(cells(s.k, s.k));
+    let c = words.part(cells(s.m, s.n));
+    let r = words.part(cells(s.m, s.m));
+    imm::estimators_imm_new(s.n, s.m, s.k, models, transition, c, r, bank)
+}
+
+// The next words into the bank; a NaN for each that is missing.
+fn fill(bank: &mut [f64], words: &mut Values<'_>) {
+    for x in bank.iter_mut() {
+        *x = words.number_or_nan();
+    }
 }
 
 fn fused<'a>(s: Sizes, bank: &[f64], given: Answer<'a>) -> Option<Answer<'a>>
@@ -121,16 +130,15 @@ fn told<'a>(
 ) -> Option<Answer<'a>>
     ensures { IfSome result (λ a. left a < left given.entry) }
 {
-    if op != Mixing::New {
-        bank.copy_from_slice(words.take(bank.len())?);
-    }
+    let from_start = *words;
+    fill(bank, words);
     let Sizes { n, m, k } = s;
     let outcome = match op {
-        Mixing::New => make(s, words, bank)?,
+        Mixing::New => make(s, from_start, bank),
         Mixing::Mix => imm::estimators_imm_mix_estimates(n, m, k, bank),
         Mixing::Probabilities => imm::estimators_imm_update_probabilities(n, m, k, bank),
         Mixing::Fused => return fused(s, bank, given),
-        Mixing::Probability => return probability(s, bank, words.size()?, given),
+        Mixing::Probability => return probability(s, bank, words.size_or_nan(), given),
     };
     given.told(outcome, &[])
 }
@@ -139,7 +147,7 @@ pub fn answer<'a>(op: Mixing, mut words: Values<'_>, given: Answer<'a>) -> Optio
     ensures { IfSome result (λ a. left a < left given.entry) }
 {
     let mut bank = [0.0; 324];
-    let s = Sizes::read(&mut words)?;
+    let s = Sizes::read(&mut words);
     let held = &mut bank[..s.bank()];
     let told = told(op, s, &mut words, held, given)?;
     left(s, held, told)

@@ -48,23 +48,16 @@ fn of_information(
 }
 
 // One sensor by its own function, else a list.
-fn fuse(
-    s: Sizes,
-    filter: &mut [f64],
-    count: usize,
-    sensors: &[f64],
-) -> Option<Result<(), Refusal>> {
+fn fuse(s: Sizes, filter: &mut [f64], count: usize, sensors: &[f64]) -> Result<(), Refusal> {
     let Sizes { n, m, i } = s;
     if count != 1 {
-        return Some(information::estimators_information_fuse_sensors(
-            n, m, i, filter, count, sensors,
-        ));
+        return information::estimators_information_fuse_sensors(n, m, i, filter, count, sensors);
     }
     let mut sensor = Values::new(sensors);
-    let h = sensor.take(cells(m, n))?;
-    let r_inv = sensor.take(cells(m, m))?;
+    let h = sensor.part(cells(m, n));
+    let r_inv = sensor.part(cells(m, m));
     let z = sensor.numbers();
-    Some(information::estimators_information_fuse_sensor(n, m, i, filter, h, r_inv, z))
+    information::estimators_information_fuse_sensor(n, m, i, filter, h, r_inv, z)
 }
 
 impl Filter for Information {
@@ -95,7 +88,7 @@ impl Filter for Information {
             Step::Nothing => Ok(()),
             Step::Predict(u) => information::estimators_information_predict(n, m, i, filter, u),
             Step::Update(z) => information::estimators_information_update(n, m, i, filter, z, told),
-            Step::Fuse(count, sensors) => return fuse(s, filter, count, sensors),
+            Step::Fuse(count, sensors) => fuse(s, filter, count, sensors),
             Step::State => information::estimators_information_state(n, m, i, filter, told),
             Step::Covariance => information::estimators_information_covariance(
                 n, m, i, filter, told,
@@ -122,7 +115,7 @@ pub fn answer<'a>(op: Filtering, mut words: Values<'_>, given: Answer<'a>) -> Op
     ensures { IfSome result (λ a. left a < left given.entry) }
 {
     let mut filter = [0.0; 112];
-    let s = Sizes::read(&mut words)?;
+    let s = Sizes::read_or_nan(&mut words);
     filter::replay::<Information>(
         op,
         s,

@@ -37,7 +37,7 @@ fn columns(op: Matrix, r: usize) -> Option<usize> {
     }
 }
 
-// How many words are the cells of a, of b, and how many a number.
+// How many words are the cells of a, of b, and how many a number; those of Outer are counted in `outer`.
 fn numbers(op: Matrix, r: usize, c: usize, i: usize) -> (usize, usize, bool) {
     let rc = cells(r, c);
     match op {
@@ -45,15 +45,38 @@ fn numbers(op: Matrix, r: usize, c: usize, i: usize) -> (usize, usize, bool) {
         Matrix::OfOne(OfOne::Scale | OfOne::Set | OfOne::VecScale) => (rc, 0, true),
         Matrix::OfOne(_) => (rc, 0, false),
         Matrix::OfTwo(OfTwo::MatMul) => (rc, cells(c, i), false),
-        Matrix::OfTwo(OfTwo::MatVec) => (rc, cells(c, 1), false),
-        Matrix::OfTwo(OfTwo::Outer) => (cells(r, 1), cells(c, 1), false),
+        Matrix::OfTwo(OfTwo::MatVec) => (rc, c, false),
         Matrix::OfTwo(_) | Matrix::Number(Number::VecDot) | Matrix::Equal => (rc, rc, false),
         Matrix::Number(_) => (rc, 0, false),
     }
 }
 
 impl<'a> Call<'a> {
+    // Two sizes, the bits of a NaN where one is missing, and two vectors. There are as many words as the sizes and 2 make, modulo 2^64.
+    fn outer(words: &mut Values<'a>) -> Option<Call<'a>> {
+        let count = words.numbers().len();
+        let r = words.size_or_nan();
+        let c = words.size_or_nan();
+        if r.wrapping_add(c).wrapping_add(2) != count {
+            return None;
+        }
+        let a = words.part(r);
+        let b = words.part(c);
+        Some(Call {
+            r,
+            c,
+            i: 0,
+            j: 0,
+            a,
+            b,
+            x: 0.0,
+        })
+    }
+
     fn read(op: Matrix, words: &mut Values<'a>) -> Option<Call<'a>> {
+        if op == Matrix::OfTwo(OfTwo::Outer) {
+            return Call::outer(words);
+        }
         let r = words.size()?;
         let c = match columns(op, r) {
             Some(c) => c,
@@ -90,7 +113,7 @@ impl<'a> Call<'a> {
     {
         match op {
             Matrix::OfTwo(OfTwo::MatMul) => cells(self.r, self.i),
-            Matrix::OfTwo(OfTwo::MatVec) => cells(self.r, 1),
+            Matrix::OfTwo(OfTwo::MatVec) => self.r.min(16),
             _ => cells(self.r, self.c),
         }
     }

@@ -16,10 +16,13 @@ use protocol::words::cells;
 pub struct SquareRoot;
 
 impl Filter for SquareRoot {
+    const HAS_SENSORS: bool = false;
+
     fn noise(s: Sizes) -> usize {
         cells(s.m, 1)
     }
 
+    // Words that end early are refused.
     fn make(
         is_new: bool,
         s: Sizes,
@@ -27,9 +30,9 @@ impl Filter for SquareRoot {
         filter: &mut [f64],
     ) -> Option<Result<(), Refusal>> {
         let Sizes { n, m, i } = s;
-        let k = Model::read(s, Self::noise(s), words)?;
-        let x = words.take(s.state())?;
-        let last = words.take(s.square())?;
+        let k = Model::part(s, Self::noise(s), words);
+        let x = words.part(s.state());
+        let last = words.part(s.square());
         Some(if is_new {
             sqrt_kalman::estimators_sqrt_kalman_new(
                 n, m, i, k.a, k.b, k.h, k.q, k.r, x, last, filter,
@@ -78,7 +81,7 @@ pub fn answer<'a>(op: Filtering, mut words: Values<'_>, given: Answer<'a>) -> Op
     ensures { IfSome result (λ a. left a < left given.entry) }
 {
     let mut filter = [0.0; 112];
-    let s = Sizes::read(&mut words)?;
+    let s = Sizes::read_or_nan(&mut words);
     filter::replay::<SquareRoot>(
         op,
         s,
