@@ -4,7 +4,7 @@ ghost use Rattle.std.specs.Prelude.{◌≡◌, ◌↔◌, ◌<◌, ◌≤◌, Is
 ghost use Rattle.protocol.specs.Left.{left};
 
 use crate::words::{Value, cut, text_of};
-use answer::Refusal;
+use answer::{Refusal, number_of};
 use std::num::f64_to_bits_with_nan;
 
 #[derive(Drop)]
@@ -54,14 +54,11 @@ impl<'a> Answer<'a> {
         self.value(Value::Whole(n))
     }
 
-    // 0, or the refusal's number.
+    // 0, or the refusal's number: what C is told, here as in `told`.
     pub fn status(self, outcome: Result<(), Refusal>) -> Option<Answer<'a>>
         ensures { IfSome result (λ a. left a < left self.entry) }
     {
-        match outcome {
-            Ok(()) => self.count(0),
-            Err(refusal) => self.count(u64::from(u8::from(refusal))),
-        }
+        self.count(u64::from(number_of(outcome)))
     }
 
     pub fn numbers(self, found: &[f64]) -> Option<Answer<'a>>
@@ -78,9 +75,9 @@ impl<'a> Answer<'a> {
     pub fn told(self, outcome: Result<(), Refusal>, found: &[f64]) -> Option<Answer<'a>>
         ensures { IfSome result (λ a. left a < left self.entry) }
     {
-        match outcome {
-            Ok(()) => self.text(b"ok")?.numbers(found),
-            Err(_) => self.text(b"refused")?.status(outcome),
+        match number_of(outcome) {
+            0 => self.text(b"ok")?.numbers(found),
+            _ => self.text(b"refused")?.status(outcome),
         }
     }
 
