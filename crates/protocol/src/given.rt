@@ -37,11 +37,12 @@ impl<'a> Answer<'a> {
         }
     }
 
+    // The text itself, or a word that says it.
     pub fn text(self, text: &[u8]) -> Option<Answer<'a>>
         ensures { IfSome result (λ a. left a < left self.entry) }
     {
         let (word, rest) = self.word()?;
-        if text_of(word)? == text {
+        if word == text || text_of(word) == Some(text) {
             Some(rest)
         } else {
             None
@@ -85,5 +86,32 @@ impl<'a> Answer<'a> {
         ensures { IsTrue result ↔ IsNone self.now.rest }
     {
         self.rest.is_none()
+    }
+}
+
+// Which words are taken as a text is in no clause.
+#[cfg(test)]
+mod tests {
+    use super::*;
+
+    #[test]
+    fn texts(rt: HostRuntime) {
+        for (word, text, is_taken) in [
+            ("ok", "ok", true),
+            ("ok", "refused", false),
+            ("\0\0ok", "ok", true),
+            ("\0\0ok", "\0\0ok", true),
+            ("singular-matrix", "singular-matrix", true),
+            ("singular-matrix", "r-matrix", true),
+            ("singular-matrix", "regular-matrix", false),
+            ("sixteen-bytes-so", "sixteen-bytes-so", true),
+            ("sixteen-bytes-so", "bytes-so", false),
+            ("3rd", "3rd", true),
+            ("\03rd", "3rd", true),
+            ("", "", true),
+        ] {
+            let taken = Answer::new(word.as_bytes()).text(text.as_bytes());
+            assert_eq!(rt; taken.is_some(), is_taken, "{word} for {text}");
+        }
     }
 }
